@@ -1,0 +1,73 @@
+ghost use mathlib.Core.Path.{_≡_};
+ghost use lib.IntN.{pos};
+ghost use lib.ListN.{set, getD};
+ghost use Rattle.number.specs.Number.{signOf, numberOf};
+
+// A number taken apart: what it is, or what it is the negative of.
+pub enum Signed {
+    Plus(u32),
+    Minus(u32),
+}
+
+// A machine number taken apart by its sign.
+pub fn sign(v: i32) -> Signed
+    ensures { λ r. ⌜ r ≡ signOf v ⌝ }
+{
+    if v < 0 {
+        Signed::Minus((-(v as i64)) as u32)
+    } else {
+        Signed::Plus(v as u32)
+    }
+}
+
+// The machine number made again; 0 where it does not fit.
+pub fn number(s: Signed) -> i32
+    ensures { λ r. ⌜ r ≡ numberOf s ⌝ }
+{
+    match s {
+        Signed::Plus(n) => { if n <= 2147483647 { n as i32 } else { 0 } }
+        Signed::Minus(n) => {
+            if n <= 2147483648 {
+                (-(n as i64)) as i32
+            } else {
+                0
+            }
+        }
+    }
+}
+
+// What stands at place i of s; 0 outside.
+pub fn at_i32(s: &[i32], i: usize) -> Signed
+    ensures { λ r. ⌜ r ≡ signOf (getD (now (s .entry)) i (pos 0)) ⌝ }
+{
+    if i < s.len() {
+        sign(s[i])
+    } else {
+        Signed::Plus(0)
+    }
+}
+
+// Stores v at place i of s; outside, nothing changes.
+pub fn put_i32(s: &mut [i32], i: usize, v: Signed)
+    ensures { λ r. ⌜ now (s .exit) ≡ set (now (s .entry)) i (numberOf v) ⌝ }
+{
+    if i < s.len() {
+        s[i] = number(v);
+    }
+}
+
+// What stands at place i of s; 0 outside.
+pub fn at_u32(s: &[u32], i: usize) -> u32
+    ensures { λ r. ⌜ r ≡ getD (now (s .entry)) i 0 ⌝ }
+{
+    if i < s.len() { s[i] } else { 0 }
+}
+
+// Stores v at place i of s; outside, nothing changes.
+pub fn put_u32(s: &mut [u32], i: usize, v: u32)
+    ensures { λ r. ⌜ now (s .exit) ≡ set (now (s .entry)) i v ⌝ }
+{
+    if i < s.len() {
+        s[i] = v;
+    }
+}

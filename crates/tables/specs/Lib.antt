@@ -1,0 +1,9 @@
+pub mod Said
+pub mod Lists
+pub mod Size
+pub mod Grammar
+pub mod Entry
+pub mod Signing
+pub mod Filled
+pub mod Judgement
+pub mod Laws

@@ -1,0 +1,9 @@
+//! Benchmarks: the product against ordinary Rust on the same input, as ratios in one run.
+#![forbid(unsafe_code)]
+
+mod judge;
+mod timing;
+
+fn main() {
+    judge::run();
+}

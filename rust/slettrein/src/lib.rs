@@ -1,0 +1,72 @@
+//! Slettrein from Rust: safe functions over the proved archive.
+#![deny(unsafe_code)]
+
+#[allow(unsafe_code)]
+mod border;
+
+/// T, M, G and L: how many terminals, symbols, rules and states there are.
+#[derive(Clone, Copy, Debug)]
+pub struct Sizes {
+    pub terminals: usize,
+    pub symbols: usize,
+    pub rules: usize,
+    pub states: usize,
+}
+
+/// The left side of each rule, the length of each right side, and all right sides one after the other.
+#[derive(Clone, Copy, Debug)]
+pub struct Grammar<'a> {
+    pub left: &'a [u32],
+    pub lens: &'a [u32],
+    pub rights: &'a [u32],
+}
+
+/// The signed rule of each state and the signed state of each nonterminal, 0 for none.
+#[derive(Clone, Copy, Debug)]
+pub struct Signing<'a> {
+    pub srule: &'a [u32],
+    pub sgoto: &'a [u32],
+}
+
+/// The number of an answer and the values that come with it.
+#[derive(Clone, Debug, PartialEq, Eq)]
+pub struct Said {
+    pub number: u32,
+    pub values: Vec<u64>,
+}
+
+/// The judgement of grammar, table and signing: OK, SIZE, GRAMMAR, ENTRY or SIGN.
+///
+/// ```
+/// use slettrein::{judge, Grammar, Said, Signing, Sizes};
+/// // S' -> S, S -> a: one terminal beside the end mark, state 1 after `a`, state 2 after `S`.
+/// let sizes = Sizes { terminals: 2, symbols: 4, rules: 2, states: 3 };
+/// let grammar = Grammar { left: &[2, 3], lens: &[1, 1], rights: &[3, 1] };
+/// let table = [0, 1, 0, 2, -2, 0, 0, 0, -1, 0, 0, 0];
+/// let signing = Signing { srule: &[0, 0, 0], sgoto: &[0, 0] };
+/// assert_eq!(judge(sizes, grammar, &table, signing), Said { number: 0, values: vec![] });
+/// let signed = Signing { srule: &[0, 3, 0], sgoto: &[0, 0] };
+/// assert_eq!(judge(sizes, grammar, &table, signed), Said { number: 4, values: vec![0, 1] });
+/// ```
+pub fn judge(sizes: Sizes, grammar: Grammar, table: &[i32], signing: Signing) -> Said {
+    said(border::judge(
+        sizes.words(),
+        [grammar.left, grammar.lens, grammar.rights],
+        table,
+        [signing.srule, signing.sgoto],
+    ))
+}
+
+impl Sizes {
+    /// The numbers as the archive takes them: one that is too large for it is far beyond every bound, and stays so.
+    fn words(self) -> [u32; 4] {
+        [self.terminals, self.symbols, self.rules, self.states]
+            .map(|n| u32::try_from(n).unwrap_or(u32::MAX))
+    }
+}
+
+/// An answer with as many values as it has.
+fn said(words: border::Words) -> Said {
+    let values = [words.first as u64, words.second as u64];
+    Said { number: words.number, values: values[..words.count as usize].to_vec() }
+}
