@@ -1,3 +1,8 @@
+// The only crate that sees a signed machine number: taken apart, made again, read and stored; and the same for unsigned ones.
+mod words;
+
+pub use words::at_u32;
+pub use words::put_u32;
 ghost use mathlib.Core.Path.{_≡_};
 ghost use lib.IntN.{pos};
 ghost use lib.ListN.{set, getD};
@@ -47,27 +52,11 @@ pub fn at_i32(s: &[i32], i: usize) -> Signed
     }
 }
 
-// Stores v at place i of s; outside, nothing changes.
-pub fn put_i32(s: &mut [i32], i: usize, v: Signed)
-    ensures { λ r. ⌜ now (s .exit) ≡ set (now (s .entry)) i (numberOf v) ⌝ }
+// Stores v at place `at` of s; outside, nothing changes.
+pub fn put_i32(s: &mut [i32], at: usize, v: Signed)
+    ensures { λ r. ⌜ now (s .exit) ≡ set (now (s .entry)) at (numberOf v) ⌝ }
 {
-    if i < s.len() {
-        s[i] = number(v);
-    }
-}
-
-// What stands at place i of s; 0 outside.
-pub fn at_u32(s: &[u32], i: usize) -> u32
-    ensures { λ r. ⌜ r ≡ getD (now (s .entry)) i 0 ⌝ }
-{
-    if i < s.len() { s[i] } else { 0 }
-}
-
-// Stores v at place i of s; outside, nothing changes.
-pub fn put_u32(s: &mut [u32], i: usize, v: u32)
-    ensures { λ r. ⌜ now (s .exit) ≡ set (now (s .entry)) i v ⌝ }
-{
-    if i < s.len() {
-        s[i] = v;
+    if at < s.len() {
+        s[at] = number(v);
     }
 }

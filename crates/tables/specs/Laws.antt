@@ -3,4 +3,7 @@ pub mod Lists
 pub mod Lowest
 pub mod Size
 pub mod Grammar
+pub mod Entry
 pub mod Signing
+pub mod Judgement
+pub mod Place

@@ -23,7 +23,7 @@ pub fn numbers_fit(z: Sizes) -> bool
 }
 
 // L is within its bounds.
-pub fn states_fit(states: u32) -> bool
+fn states_fit(states: u32) -> bool
     ensures { λ r. ⌜ r ≡ statesFit states ⌝ }
 {
     within(2, 1024, states)
@@ -48,7 +48,7 @@ fn rights_fit(lens: &[u32], total: usize) -> bool
 }
 
 // The numbers of a grammar and the lengths of its arrays fit.
-pub fn grammar_fits(z: Sizes, left: &[u32], lens: &[u32], rights: &[u32]) -> bool
+pub(crate) fn grammar_fits(z: Sizes, left: &[u32], lens: &[u32], rights: &[u32]) -> bool
     ensures { λ r. ⌜ r ≡ grammarFits z (now (left .entry)) (now (lens .entry)) (now (rights .entry)) ⌝ }
 {
     numbers_fit(z)
@@ -57,7 +57,7 @@ pub fn grammar_fits(z: Sizes, left: &[u32], lens: &[u32], rights: &[u32]) -> boo
 }
 
 // The table has L x M entries.
-pub fn table_fits(z: Sizes, states: u32, table: &[i32]) -> bool
+fn table_fits(z: Sizes, states: u32, table: &[i32]) -> bool
     ensures { λ r. ⌜ r ≡ tableFits z states (now (table .entry)) ⌝ }
 {
     table.len() == states as usize * z.symbols as usize
@@ -74,7 +74,7 @@ pub fn signing_fits(z: Sizes, states: u32, srule: &[u32], sgoto: &[u32]) -> bool
 }
 
 // Grammar, table and signing fit.
-pub fn all_fit(
+pub(crate) fn all_fit(
     z: Sizes,
     states: u32,
     left: &[u32],

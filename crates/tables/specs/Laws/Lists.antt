@@ -7,8 +7,9 @@ use native.Mathlib.Nat.{mul-suc}
 use native.Mathlib.Omega.{arith}
 use lib.Dec.{eqb}
 use lib.ListN.{length, getD, take}
-use borrow.Author.Tests.{eq-eqb, ne-eqb}
-use Rattle.tables.specs.Laws.Tests.{and-true, and-false}
+use lib.Seq.{length-take-le, getD-take}
+use borrow.Author.Tests.{eq-eqb, ne-eqb, eqb-false}
+use Rattle.tables.specs.Laws.Tests.{clash, and-true, and-false}
 use Rattle.tables.specs.Lists.{all, sum, among}
 
 -- ---- all
@@ -64,3 +65,31 @@ unfolding among
 among-more x [] i h = absurd (omega arith)
 among-more x (y ∷ l) zero h = or-false (eqb x y)
 among-more x (y ∷ l) (suc i) h = rw (among-more x l i (omega arith)) (sym (or-assoc (eqb x y) (among x (take i l)) (eqb x (getD l i 0))))
+
+or-parts : (b : Bool) {d : Bool} → (b || d) ≡ false → (b ≡ false) × (d ≡ false)
+or-parts true h = absurd (clash refl h)
+or-parts false h = (refl, h)
+
+-- the element at i is not among those before it
+pub not-among-of : (x : ℕ) (l : List ℕ) → among x l ≡ false → (k : ℕ) → k < length l → getD l k 0 ≡ x → ⊥
+unfolding among
+not-among-of x [] e k h q = omega arith
+not-among-of x (y ∷ l) e zero h q = eqb-false x y (or-parts (eqb x y) e .0) (sym q)
+not-among-of x (y ∷ l) e (suc k) h q = not-among-of x l (or-parts (eqb x y) e .1) k (omega arith) q
+
+pub among-none-of : (x : ℕ) (l : List ℕ) → ((k : ℕ) → k < length l → getD l k 0 ≡ x → ⊥) → among x l ≡ false
+unfolding among
+among-none-of x [] n = refl
+among-none-of x (y ∷ l) n = rw (ne-eqb x y (λ q. n 0 (omega arith) (sym q))) (among-none-of x l (λ k h. n (suc k) (omega arith)))
+
+module _ (l : List ℕ) (i : ℕ) (h : i < length l) where
+  pub not-among : among (getD l i 0) (take i l) ≡ false → (k : ℕ) → k < i → getD l k 0 ≡ getD l i 0 → ⊥
+  not-among e k m q =
+      not-among-of (getD l i 0) (take i l) e k (let s : length (take i l) ≡ i = length-take-le i l (omega arith) in omega arith) (getD-take i l k 0 m ∙ q)
+
+  pub among-at : ((k : ℕ) → k < i → getD l k 0 ≡ getD l i 0 → ⊥) → among (getD l i 0) (take i l) ≡ false
+  among-at n =
+      among-none-of (getD l i 0) (take i l) (λ k m q.
+      let s : length (take i l) ≡ i = length-take-le i l (omega arith) in
+      let b : k < i = omega arith in
+      n k b (sym (getD-take i l k 0 b) ∙ q))

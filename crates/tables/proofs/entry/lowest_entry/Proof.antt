@@ -13,14 +13,11 @@ use Rattle.number.specs.declared.Signed.{Signed}
 use Rattle.tables.specs.declared.Sizes.{Sizes}
 use Rattle.tables.specs.declared.Lowest.the-variants.{At, Nowhere}
 use Rattle.tables.specs.Entry.{goodSigned, goodEntry, lowestEntry}
+use Rattle.tables.specs.Laws.Entry.{goodAt}
 use Rattle.tables.specs.Laws.Lowest.{Walk, walk-begin, walk-on, walk-bad, walk-end}
 use Rattle.tables.specs.Laws.Size.{NumbersFit, numbers-fit}
 use Rattle.tables.proofs.entry.lowest_entry.Statement.{statement}
 use Rattle.tables.proofs.entry.lowest_entry.Tie as tie
-
--- the entry at index i is good
-abbrev goodAt : Sizes → ℕ → List ℤ → ℕ → Bool
-goodAt z states table i = goodEntry z states (i % z .symbols) (getD table i (pos 0))
 
 -- a is the column of index i, and the entries before i are good
 record Passing (z : Sizes) (states : ℕ) (table : List ℤ) (i a : ℕ) : Type 0 where

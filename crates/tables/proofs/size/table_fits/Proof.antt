@@ -1,6 +1,4 @@
-use Prim.Native.Nat.{_*_, _≤_}
-use native.Mathlib.Omega.{arith}
-use Rattle.tables.proofs.Product.{product}
+use Rattle.tables.specs.Laws.Place.{row-fits}
 use Rattle.tables.specs.Size.{tableFits}
 use mathlib.Core.Path.{refl}
 use borrow.Author.Needs.{needs}
@@ -11,9 +9,7 @@ cast-result : tie.Need-cast-result
 cast-result c = search needs
 
 mul-result : tie.Need-mul-result
-mul-result c =
-    let p : c .before .args .states * c .before .args .z .symbols ≤ 4294967295 * 4294967295 = product (search needs) (search needs) in
-    record { fits = omega arith }
+mul-result c = record { fits = row-fits _ _ (search needs) (search needs) }
 
 returns : tie.Need-returns
 unfolding tableFits
