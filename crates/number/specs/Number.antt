@@ -1,7 +1,7 @@
 -- A machine number taken apart by its sign, and made again.
-use Prim.Native.Nat.{suc}
-use mathlib.Core.Bool.{cond}
-use lib.Dec.{leb}
+use Prim.Native.Nat.{ℕ, suc}
+use mathlib.Core.Bool.{Bool, false, cond}
+use lib.Dec.{leb, eqb}
 use lib.IntN.{ℤ, pos, negsuc, negℤ}
 use Rattle.number.specs.declared.Signed.{Signed}
 use Rattle.number.specs.declared.Signed.the-variants.{Plus, Minus}
@@ -15,3 +15,13 @@ signOf (negsuc n) = Minus (suc n)
 abbrev pub numberOf : Signed → ℤ
 numberOf (Plus n) = cond (leb n 2147483647) (pos n) (pos 0)
 numberOf (Minus n) = cond (leb n 2147483648) (negℤ (pos n)) (pos 0)
+
+-- the number is n
+abbrev pub isPlus : Signed → ℕ → Bool
+isPlus (Plus m) n = eqb m n
+isPlus (Minus m) n = false
+
+-- the number itself, 0 where it is negative
+abbrev pub plusOf : ℤ → ℕ
+plusOf (pos n) = n
+plusOf (negsuc n) = 0

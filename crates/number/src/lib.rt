@@ -2,11 +2,13 @@
 mod words;
 
 pub use words::at_u32;
+pub use words::fill_u32;
 pub use words::put_u32;
 ghost use mathlib.Core.Path.{_≡_};
 ghost use lib.IntN.{pos};
-ghost use lib.ListN.{set, getD};
-ghost use Rattle.number.specs.Number.{signOf, numberOf};
+ghost use Prim.Native.Nat.{_<_};
+ghost use lib.ListN.{set, getD, length, replicate};
+ghost use Rattle.number.specs.Number.{signOf, numberOf, isPlus, plusOf};
 
 // A number taken apart: what it is, or what it is the negative of.
 pub enum Signed {
@@ -52,11 +54,50 @@ pub fn at_i32(s: &[i32], i: usize) -> Signed
     }
 }
 
+// What stands at place i of s is n; 0 stands outside.
+pub fn holds_i32(s: &[i32], i: usize, n: u32) -> bool
+    ensures { λ r. ⌜ r ≡ isPlus (signOf (getD (now (s .entry)) i (pos 0))) n ⌝ }
+{
+    if i < s.len() {
+        s[i] as i64 == n as i64
+    } else {
+        0 == n
+    }
+}
+
 // Stores v at place `at` of s; outside, nothing changes.
 pub fn put_i32(s: &mut [i32], at: usize, v: Signed)
     ensures { λ r. ⌜ now (s .exit) ≡ set (now (s .entry)) at (numberOf v) ⌝ }
 {
     if at < s.len() {
         s[at] = number(v);
+    }
+}
+
+// v, or 0 where it is negative.
+fn plus(v: i32) -> u32
+    ensures { λ r. ⌜ (r ≡ plusOf v) × (r < 2147483648) ⌝ }
+{
+    match sign(v) {
+        Signed::Plus(n) => n,
+        Signed::Minus(_) => 0,
+    }
+}
+
+// What stands at place i of s; 0 outside, and where it is negative.
+pub fn plus_at(s: &[i32], i: usize) -> u32
+    ensures { λ r. ⌜ (r ≡ plusOf (getD (now (s .entry)) i (pos 0))) × (r < 2147483648) ⌝ }
+{
+    if i < s.len() { plus(s[i]) } else { 0 }
+}
+
+// Stores v at every place of s.
+pub fn fill_i32(s: &mut [i32], v: Signed)
+    ensures { λ r. ⌜ now (s .exit) ≡ replicate (length (now (s .entry))) (numberOf v) ⌝ }
+{
+    let mut i: usize = 0;
+    while i < s.len() {
+        put_i32(s, i, v);
+        i += 1;
     }
 }

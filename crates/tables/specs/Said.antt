@@ -30,3 +30,47 @@ SIGN-STATE s = answer 4 (0 ∷ s ∷ [])
 
 abbrev pub SIGN-NONTERMINAL : ℕ → Said
 SIGN-NONTERMINAL x = answer 4 (1 ∷ x ∷ [])
+
+-- placement would take a cell W or above
+abbrev pub NOROOM : Said
+NOROOM = answer 5 []
+
+-- the least state, then the least rule, that fails on some path
+abbrev pub UNSOUND : ℕ → ℕ → Said
+UNSOUND s r = answer 6 (s ∷ r ∷ [])
+
+-- the token index
+abbrev pub TOKEN : ℕ → Said
+TOKEN i = answer 7 (i ∷ [])
+
+abbrev pub SYNTAX : ℕ → Said
+SYNTAX i = answer 8 (i ∷ [])
+
+-- the token index and the rule
+abbrev pub UNDERFLOW : ℕ → ℕ → Said
+UNDERFLOW i r = answer 9 (i ∷ r ∷ [])
+
+abbrev pub NOGOTO : ℕ → ℕ → Said
+NOGOTO i r = answer 10 (i ∷ r ∷ [])
+
+-- the token index
+abbrev pub STACK : ℕ → Said
+STACK i = answer 11 (i ∷ [])
+
+abbrev pub OUTPUT : ℕ → Said
+OUTPUT i = answer 12 (i ∷ [])
+
+abbrev pub MOVES : ℕ → Said
+MOVES i = answer 13 (i ∷ [])
+
+-- the cell of the state that was read
+abbrev pub BADCELL : ℕ → Said
+BADCELL x = answer 14 (x ∷ [])
+
+-- the sheet's line, from 1
+abbrev pub LINE : ℕ → Said
+LINE n = answer 15 (n ∷ [])
+
+-- sheet text longer than the lent buffer
+abbrev pub TEXT : Said
+TEXT = answer 16 []

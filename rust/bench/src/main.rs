@@ -2,8 +2,11 @@
 #![forbid(unsafe_code)]
 
 mod judge;
+mod pack;
+mod table;
 mod timing;
 
 fn main() {
     judge::run();
+    pack::run();
 }

@@ -2,19 +2,22 @@
 
 use std::time::{Duration, Instant};
 
-const ROUNDS: usize = 30;
-
-/// The least time of a call.
+/// The time of a call.
 fn timed<A>(call: &mut impl FnMut() -> A) -> Duration {
     let start = Instant::now();
     std::hint::black_box(call());
     start.elapsed()
 }
 
-/// Prints the least times of the product and of the other program, and their ratio.
-pub fn compare<A, B>(name: &str, mut product: impl FnMut() -> A, mut other: impl FnMut() -> B) {
+/// Prints the least times of the product and of the other program over so many rounds, and their ratio.
+pub fn compare<A, B>(
+    name: &str,
+    rounds: usize,
+    mut product: impl FnMut() -> A,
+    mut other: impl FnMut() -> B,
+) {
     let mut best = (Duration::MAX, Duration::MAX);
-    for _ in 0..ROUNDS {
+    for _ in 0..rounds {
         best.0 = best.0.min(timed(&mut product));
         best.1 = best.1.min(timed(&mut other));
     }

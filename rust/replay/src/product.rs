@@ -1,6 +1,6 @@
 //! The product, as far as it has the operations.
 
-use cases::{Answer, Ask, Given, Grammar, Op, Signing, Sizes};
+use cases::{Answer, Array, Ask, Cells, Counts, Given, Grammar, Op, Signing, Sizes};
 use slettrein::Said;
 
 use crate::Program;
@@ -10,16 +10,16 @@ pub struct Product;
 
 impl Product {
     /// The operations that the product has.
-    pub const OPERATIONS: [Op; 0] = [];
+    pub const OPERATIONS: [Op; 2] = [Op::Pack, Op::Read];
 }
 
 impl Program for Product {
-    /// None as yet for every operation.
+    /// The answer of the exported function for the operation, or none where there is no such function yet.
     fn answer(&self, ask: &Ask) -> Answer {
         match ask {
-            Ask::Pack { .. }
-            | Ask::Read { .. }
-            | Ask::Parse { .. }
+            Ask::Pack { given, cells, marks, place } => pack(given, cells, marks, place),
+            Ask::Read { counts, cells, x, a } => read(counts, cells, *x, *a),
+            Ask::Parse { .. }
             | Ask::Plain { .. }
             | Ask::Check { .. }
             | Ask::SheetRead { .. }
@@ -31,7 +31,8 @@ impl Program for Product {
     /// The answer of the exported judgement.
     fn judge(&self, given: &Given) -> Answer {
         let (sizes, grammar) = (lend_sizes(&given.sizes), lend_grammar(&given.grammar));
-        answer(slettrein::judge(sizes, grammar, &given.table, lend_signing(&given.signing)))
+        let said = slettrein::judge(sizes, grammar, &given.table, lend_signing(&given.signing));
+        answer(said, Vec::new())
     }
 }
 
@@ -53,7 +54,35 @@ fn lend_signing(signing: &Signing) -> slettrein::Signing<'_> {
     slettrein::Signing { srule, sgoto }
 }
 
-/// What was said.
-fn answer(said: Said) -> Answer {
-    Answer { code: Some(said.number), values: said.values, ..Answer::default() }
+/// What was said, with the lent arrays after the call.
+fn answer(said: Said, arrays: Vec<(&'static str, Array)>) -> Answer {
+    Answer { code: Some(said.number), values: said.values, moves: None, arrays }
+}
+
+/// Packing.
+fn pack(given: &Given, cells: &Cells, marks: &[u32], place: &[u32]) -> Answer {
+    let (mut cells, mut marks, mut place) = (cells.clone(), marks.to_vec(), place.to_vec());
+    let said = slettrein::pack(
+        lend_sizes(&given.sizes),
+        lend_grammar(&given.grammar),
+        &given.table,
+        lend_signing(&given.signing),
+        slettrein::CellsMut { base: &mut cells.base, check: &mut cells.check, marks: &mut marks },
+        &mut place,
+    );
+    let arrays = vec![
+        ("base", Array::Signed(cells.base)),
+        ("check", Array::Signed(cells.check)),
+        ("marks", Array::Unsigned(marks)),
+        ("place", Array::Unsigned(place)),
+    ];
+    answer(said, arrays)
+}
+
+/// A single read.
+fn read(counts: &Counts, cells: &Cells, x: usize, a: usize) -> Answer {
+    let Counts { terminals, symbols, rules } = *counts;
+    let counts = slettrein::Counts { terminals, symbols, rules };
+    let cells = slettrein::Cells { base: &cells.base, check: &cells.check };
+    answer(slettrein::read(counts, cells, x, a), Vec::new())
 }

@@ -28,6 +28,29 @@ pub struct Signing<'a> {
     pub sgoto: &'a [u32],
 }
 
+/// T, M and G, which are all that is stated where cells are read.
+#[derive(Clone, Copy, Debug)]
+pub struct Counts {
+    pub terminals: usize,
+    pub symbols: usize,
+    pub rules: usize,
+}
+
+/// The arrays Base and Check.
+#[derive(Clone, Copy, Debug)]
+pub struct Cells<'a> {
+    pub base: &'a [i32],
+    pub check: &'a [i32],
+}
+
+/// The arrays that packing fills: Base, Check, and a mark for each taken cell.
+#[derive(Debug)]
+pub struct CellsMut<'a> {
+    pub base: &'a mut [i32],
+    pub check: &'a mut [i32],
+    pub marks: &'a mut [u32],
+}
+
 /// The number of an answer and the values that come with it.
 #[derive(Clone, Debug, PartialEq, Eq)]
 pub struct Said {
@@ -57,12 +80,46 @@ pub fn judge(sizes: Sizes, grammar: Grammar, table: &[i32], signing: Signing) ->
     ))
 }
 
+/// Packs into the four lent arrays: OK with the count of cells, or SIZE, GRAMMAR, ENTRY, SIGN or NOROOM.
+///
+/// Base, Check and marks have W elements each, the place list has an element for each state.
+pub fn pack(
+    sizes: Sizes,
+    grammar: Grammar,
+    table: &[i32],
+    signing: Signing,
+    cells: CellsMut,
+    place: &mut [u32],
+) -> Said {
+    said(border::pack(
+        sizes.words(),
+        [grammar.left, grammar.lens, grammar.rights],
+        table,
+        [signing.srule, signing.sgoto],
+        [cells.base, cells.check],
+        [cells.marks, place],
+    ))
+}
+
+/// Reads symbol `a` at the state at cell `x`: OK with what the read answers, SIZE or BADCELL.
+///
+/// The values of OK are 0 and a cell for a direct shift, 1 and a cell for a shift through a
+/// pointer, 2 and a rule for a reduction, 3 for accept, and 4 for blank.
+pub fn read(counts: Counts, cells: Cells, x: usize, a: usize) -> Said {
+    let numbers = [counts.terminals, counts.symbols, counts.rules].map(word);
+    said(border::read(numbers, [cells.base, cells.check], x, word(a)))
+}
+
 impl Sizes {
-    /// The numbers as the archive takes them: one that is too large for it is far beyond every bound, and stays so.
+    /// The numbers as the archive takes them.
     fn words(self) -> [u32; 4] {
-        [self.terminals, self.symbols, self.rules, self.states]
-            .map(|n| u32::try_from(n).unwrap_or(u32::MAX))
+        [self.terminals, self.symbols, self.rules, self.states].map(word)
     }
+}
+
+/// A number as the archive takes it: one that is too large for it is far beyond every bound, and stays so.
+fn word(n: usize) -> u32 {
+    u32::try_from(n).unwrap_or(u32::MAX)
 }
 
 /// An answer with as many values as it has.

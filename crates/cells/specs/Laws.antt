@@ -1,0 +1,4 @@
+pub mod Size
+pub mod Read
+pub mod Parsing
+pub mod Asked

@@ -1,0 +1,104 @@
+-- The parts of packing, put together. Assumes nothing.
+use mathlib.Core.Path.{_≡_, refl, sym, ap, _∙_}
+use mathlib.Core.Bool.{Bool, true, false, cond, _&&_}
+use mathlib.Core.Option.{Option, none, some}
+use mathlib.Core.List.{List, [], _∷_}
+use Prim.Native.Nat.{ℕ, zero, suc, _+_, _-_, _≤_, _<_}
+use native.Mathlib.Omega.{arith}
+use lib.Dec.{eqb}
+use lib.IntN.{ℤ}
+use lib.ListN.{length, getD}
+use borrow.Author.Tests.{eqb-true, eq-eqb, ne-eqb}
+use Rattle.tables.specs.declared.Sizes.{Sizes}
+use Rattle.tables.specs.declared.Lowest.{Lowest}
+use Rattle.tables.specs.declared.Lowest.the-variants.{At, Nowhere}
+use Rattle.tables.specs.Said.{Said, OK, SIZE, GRAMMAR, ENTRY, SIGN-STATE, SIGN-NONTERMINAL, NOROOM}
+use Rattle.tables.specs.Size.{isWithin, allFit}
+use Rattle.tables.specs.Grammar.{lowestRule}
+use Rattle.tables.specs.Entry.{lowestEntry}
+use Rattle.tables.specs.Signing.{lowestState, lowestTarget}
+use Rattle.tables.specs.Judgement.{named, signJudgement, judgement}
+use Rattle.tables.specs.Laws.Tests.{and-true}
+use Rattle.tables.specs.Laws.Size.{all-fit}
+use Rattle.cells.specs.Read.{twice}
+use Rattle.cells.specs.Size.{cellsFit}
+use Rattle.cells.specs.Laws.Size.{cells-fit}
+use Rattle.packing.specs.Packed.{bound}
+use Rattle.packing.specs.Bench.{Bench, placementB}
+use Rattle.packing.specs.Job.{jobOf}
+use Rattle.packing.specs.Written.{bench}
+use Rattle.packing.specs.Turns.{Sized, Ready, wiped}
+use Rattle.packing.specs.Packing.{Result, result, arraysFit, countUpto, countOf, placedBy, judgedBy, packed}
+
+-- ---- the count
+
+module _ (marks : List ℕ) (n : ℕ) (some : 0 < n) where
+  pub count-on : getD marks (n - 1) 0 ≡ 0 → countUpto marks n ≡ countUpto marks (n - 1)
+  count-on e = let q : n ≡ suc (n - 1) = omega arith in go (n - 1) q e
+    where
+      go : (m : ℕ) → n ≡ suc m → getD marks m 0 ≡ 0 → countUpto marks n ≡ countUpto marks m
+      go m q e = rw (q, eq-eqb (getD marks m 0) 0 e) refl
+
+  pub count-hit : (getD marks (n - 1) 0 ≡ 0 → ⊥) → n ≡ countUpto marks n
+  count-hit e = let q : n ≡ suc (n - 1) = omega arith in go (n - 1) q e
+    where
+      go : (m : ℕ) → n ≡ suc m → (getD marks m 0 ≡ 0 → ⊥) → n ≡ countUpto marks n
+      go m q e = rw (q, ne-eqb (getD marks m 0) 0 e) refl
+
+-- ---- the judgement
+
+named-good : (l : Lowest) (name : ℕ → Said) (next : Said) → ((k : ℕ) → name k .number ≡ 0 → ⊥) → named l name next .number ≡ 0 → (l ≡ Nowhere) × (next .number ≡ 0)
+named-good (At k) name next n e = absurd (n k e)
+named-good Nowhere name next n e = (refl, e)
+
+size-good : (b : Bool) (q : Said) → cond b q SIZE .number ≡ 0 → (b ≡ true) × (q .number ≡ 0)
+size-good true q e = (refl, e)
+size-good false q e = absurd (omega arith)
+
+module _ (z : Sizes) (states : ℕ) (left lens rights : List ℕ) (table : List ℤ) (srule sgoto : List ℕ) where
+  pub ready : judgement z states left lens rights table srule sgoto .number ≡ 0 → Ready z states table srule sgoto
+  unfolding judgement signJudgement
+  ready e =
+      let a = size-good (allFit z states left lens rights table srule sgoto) _ e in
+      let b = named-good (lowestRule z left lens rights) (λ i. GRAMMAR (i + 1)) _ (λ k q. omega arith) (a .1) in
+      let d = named-good (lowestEntry z states table) ENTRY _ (λ k q. omega arith) (b .1) in
+      let s = named-good (lowestState z srule) SIGN-STATE _ (λ k q. omega arith) (d .1) in
+      record { sizes = all-fit z states left lens rights table srule sgoto (a .0) .signing; entries = d .0; rules = s .0 }
+
+  module _ (A : Bench) where
+    pub refused-size : arraysFit states A ≡ false → result SIZE A ≡ packed z states left lens rights table srule sgoto A
+    unfolding packed
+    refused-size e = rw e refl
+
+    module _ (fit : arraysFit states A ≡ true) where
+      pub refused-judged : (q : Said) → q ≡ judgement z states left lens rights table srule sgoto → eqb (q .number) 0 ≡ false
+          → result q A ≡ packed z states left lens rights table srule sgoto A
+      unfolding packed
+      refused-judged q e n = rw (fit, ← e, n) refl
+
+      pub accepted : (q x : Said) (B : Bench) → q ≡ judgement z states left lens rights table srule sgoto → eqb (q .number) 0 ≡ true
+          → result x B ≡ placedBy (placementB (jobOf twice z states table srule sgoto) (length (A .bases)) (bound (jobOf twice z states table srule sgoto))) A
+          → result x B ≡ packed z states left lens rights table srule sgoto A
+      unfolding packed
+      accepted q x B e n p = p ∙ sym (rw (fit, ← e, n) refl)
+
+-- ---- sizes
+
+pub sized : (states : ℕ) (A : Bench) → arraysFit states A ≡ true → Sized states A
+unfolding arraysFit
+sized states A e =
+    let p : (cellsFit (A .bases) (A .checks) ≡ true) × _ = and-true (cellsFit (A .bases) (A .checks)) e in
+    let q : (eqb (length (A .marks)) (length (A .bases)) ≡ true) × _ = and-true (eqb (length (A .marks)) (length (A .bases))) (p .1) in
+    record { checks = cells-fit (A .bases) (A .checks) (p .0) .same; marks = eqb-true _ _ (q .0); places = eqb-true _ _ (q .1) }
+
+-- ---- placement
+
+pub placed-count : (A B : Bench) (o : Option Bench) (n : ℕ) → some B ≡ o → n ≡ countOf (B .marks) → result (OK (n ∷ [])) B ≡ placedBy o A
+placed-count A B o n e q = rw (← e, q) refl
+
+-- arrays of the same sizes are wiped to the same
+pub no-room : (A B C : Bench) (o : Option Bench) → none ≡ o → C ≡ wiped 0 B
+    → length (B .bases) ≡ length (A .bases) → length (B .checks) ≡ length (A .checks) → length (B .marks) ≡ length (A .marks) → length (B .places) ≡ length (A .places)
+    → result NOROOM C ≡ placedBy o A
+unfolding wiped
+no-room A B C o e w p q r s = rw (← e, w, p, q, r, s) refl

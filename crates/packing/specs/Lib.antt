@@ -1,0 +1,13 @@
+pub mod Job
+pub mod Rows
+pub mod Board
+pub mod Bench
+pub mod Packed
+pub mod Valid
+pub mod Promises
+pub mod SmallBoard
+pub mod Laws
+pub mod Theorems
+pub mod Written
+pub mod Turns
+pub mod Packing
