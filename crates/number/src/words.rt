@@ -1,6 +1,7 @@
 // Reads and stores of unsigned numbers on lent slices.
 ghost use mathlib.Core.Path.{_≡_};
 ghost use lib.ListN.{set, getD, length, replicate};
+ghost use Rattle.number.specs.Words.{clearOf};
 
 // What stands at place i of s; 0 outside.
 pub fn at_u32(s: &[u32], i: usize) -> u32
@@ -25,6 +26,17 @@ pub fn fill_u32(s: &mut [u32], v: u32)
     let mut i: usize = 0;
     while i < s.len() {
         put_u32(s, i, v);
+        i += 1;
+    }
+}
+
+// Stores 0 at place `from` of s and at every place after it.
+pub fn clear_u32(s: &mut [u32], from: usize)
+    ensures { λ r. ⌜ now (s .exit) ≡ clearOf (now (s .entry)) from ⌝ }
+{
+    let mut i = from;
+    while i < s.len() {
+        s[i] = 0;
         i += 1;
     }
 }

@@ -6,4 +6,5 @@ pub mod Grammar
 pub mod Entry
 pub mod Signing
 pub mod Judgement
+pub mod Filled
 pub mod Place

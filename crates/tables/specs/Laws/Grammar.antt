@@ -6,14 +6,15 @@ use mathlib.Core.List.{List, [], _∷_}
 use Prim.Native.Nat.{ℕ, zero, suc, _+_, _-_, _≤_, _<_}
 use native.Mathlib.Omega.{arith}
 use lib.Dec.{ltb, eqb}
-use lib.ListN.{length, getD}
-use borrow.Author.Tests.{lt-ltb, ltb-true, eq-eqb, ne-eqb, eqb-true, eqb-false, not-true}
+use lib.ListN.{length, getD, take, drop, length-drop, List·getD-eq-default}
+use lib.Seq.{length-take-le}
+use borrow.Author.Tests.{lt-ltb, ltb-true, ltb-false, eq-eqb, ne-eqb, eqb-true, eqb-false, not-true}
 use Rattle.tables.specs.declared.Sizes.{Sizes}
 use Rattle.tables.specs.declared.Lowest.the-variants.{At}
-use Rattle.tables.specs.Lists.{all}
+use Rattle.tables.specs.Lists.{all, sum}
 use Rattle.tables.specs.Grammar.{Grammar, grammar, rightAt, inner, onRight, goodSides, goodRule, lowestRule}
 use Rattle.tables.specs.Laws.Tests.{and-true}
-use Rattle.tables.specs.Laws.Lists.{all-at, all-in}
+use Rattle.tables.specs.Laws.Lists.{all-at, all-in, sum-more, sum-part}
 use Rattle.tables.specs.Laws.Lowest.{Passed, at-least}
 
 module _ (z : Sizes) (left lens rights : List ℕ) where
@@ -21,6 +22,18 @@ module _ (z : Sizes) (left lens rights : List ℕ) where
   pub rule-below : {i : ℕ} → lowestRule z left lens rights ≡ At i → i < z .rules
   unfolding lowestRule
   rule-below {i} e = at-least (goodRule z left lens rights) (z .rules) i e .0
+
+-- where the right sides are as long together as the lengths say, each is as long as its own
+pub right-length : (lens rights : List ℕ) → sum lens ≡ length rights → (i : ℕ) → length (rightAt lens rights i) ≡ getD lens i 0
+unfolding rightAt
+right-length lens rights e i = by (ltb i (length lens)) refl
+  where
+    by : (b : Bool) → ltb i (length lens) ≡ b → length (take (getD lens i 0) (drop (sum (take i lens)) rights)) ≡ getD lens i 0
+    by true q =
+        let h : i < length lens = ltb-true _ _ q in
+        let l : length (drop (sum (take i lens)) rights) ≡ length rights - sum (take i lens) = length-drop (sum (take i lens)) rights in
+        length-take-le _ _ (omega (arith, l, sum-more lens i h, sum-part lens (suc i)))
+    by false q = let z : getD lens i 0 ≡ 0 = List·getD-eq-default lens 0 (ltb-false _ _ q) in rw z
 
 -- ---- the tests and what they mean
 

@@ -1,0 +1,9 @@
+pub mod Simulation
+pub mod Whole
+pub mod Steps
+pub mod Standing
+pub mod Joined
+pub mod Runs
+pub mod Turns
+pub mod Outcome
+pub mod Plain
