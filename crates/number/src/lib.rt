@@ -3,7 +3,6 @@ mod words;
 
 pub use words::at_u32;
 pub use words::clear_u32;
-pub use words::fill_u32;
 pub use words::put_u32;
 ghost use mathlib.Core.Path.{_≡_};
 ghost use lib.IntN.{pos};

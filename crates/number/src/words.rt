@@ -1,6 +1,6 @@
 // Reads and stores of unsigned numbers on lent slices.
 ghost use mathlib.Core.Path.{_≡_};
-ghost use lib.ListN.{set, getD, length, replicate};
+ghost use lib.ListN.{set, getD};
 ghost use Rattle.number.specs.Words.{clearOf};
 
 // What stands at place i of s; 0 outside.
@@ -16,17 +16,6 @@ pub fn put_u32(s: &mut [u32], at: usize, v: u32)
 {
     if at < s.len() {
         s[at] = v;
-    }
-}
-
-// Stores v at every place of s.
-pub fn fill_u32(s: &mut [u32], v: u32)
-    ensures { λ r. ⌜ now (s .exit) ≡ replicate (length (now (s .entry))) v ⌝ }
-{
-    let mut i: usize = 0;
-    while i < s.len() {
-        put_u32(s, i, v);
-        i += 1;
     }
 }
 

@@ -113,8 +113,8 @@ pub(crate) fn wipe(
 {
     number::fill_i32(base, Signed::Plus(0));
     number::fill_i32(check, Signed::Plus(empty));
-    number::fill_u32(marks, 0);
-    number::fill_u32(place, 0);
+    number::clear_u32(marks, 0);
+    number::clear_u32(place, 0);
 }
 
 // All of placement.

@@ -139,8 +139,8 @@ fn same_entry(d: Written, e: Written) -> bool
     }
 }
 
-// States j and s, with the signed rules p and q, have the same written action row.
-fn same_row(z: Sizes, table: &[i32], p: u32, j: u32, q: u32, s: u32) -> bool
+// States j and s, with the signed rules p and q, have the same written action row: column by column.
+fn same_columns(z: Sizes, table: &[i32], p: u32, j: u32, q: u32, s: u32) -> bool
     ensures { λ r. ⌜ r ≡ sameUpto (λ a. actOf (actionEntry z (now (table .entry)) p j a)) (λ a. actOf (actionEntry z (now (table .entry)) q s a)) (z .terminals) ⌝ }
 {
     let mut a: u32 = 0;
@@ -156,14 +156,47 @@ fn same_row(z: Sizes, table: &[i32], p: u32, j: u32, q: u32, s: u32) -> bool
     true
 }
 
+// The same, with a look at one column first, in which rows that differ mostly do.
+fn same_row(z: Sizes, table: &[i32], p: u32, j: u32, q: u32, s: u32, column: u32) -> bool
+    ensures { λ r. ⌜ r ≡ sameUpto (λ a. actOf (actionEntry z (now (table .entry)) p j a)) (λ a. actOf (actionEntry z (now (table .entry)) q s a)) (z .terminals) ⌝ }
+{
+    if column < z.terminals {
+        if same_entry(
+            action_entry(z, table, p, j, column),
+            action_entry(z, table, q, s, column),
+        ) {
+            same_columns(z, table, p, j, q, s)
+        } else {
+            false
+        }
+    } else {
+        same_columns(z, table, p, j, q, s)
+    }
+}
+
+// The first written column of the action row of s, or T where it has none.
+fn first_written(z: Sizes, table: &[i32], q: u32, s: u32) -> u32
+    ensures { λ r. ⌜ r ≤ z .terminals ⌝ }
+{
+    let mut a: u32 = 0;
+    while a < z.terminals {
+        if !is_blank(action_entry(z, table, q, s, a)) {
+            return a;
+        }
+        a += 1;
+    }
+    a
+}
+
 // The first state with the written action row of s.
 pub(crate) fn first_same(z: Sizes, table: &[i32], srule: &[u32], s: u32) -> u32
     ensures { λ r. ⌜ FirstSame z (now (table .entry)) (now (srule .entry)) s r ⌝ }
 {
     let q = number::at_u32(srule, s as usize);
+    let column = first_written(z, table, q, s);
     let mut j: u32 = 0;
     while j < s {
-        if same_row(z, table, number::at_u32(srule, j as usize), j, q, s) {
+        if same_row(z, table, number::at_u32(srule, j as usize), j, q, s, column) {
             return j;
         }
         j += 1;

@@ -1,69 +1,48 @@
-use mathlib.Core.List.{List}
-use mathlib.Core.Bool.{true}
-use mathlib.Core.Path.{_≡_, refl, ap, sym, _∙_, ap₂}
-use Prim.Native.Nat.{ℕ, _-_, _≤_}
-use native.Mathlib.Omega.{arith}
-use lib.IntN.{ℤ}
-use borrow.Author.Tests.{not-true, not-false}
-use Rattle.tables.specs.declared.Sizes.{Sizes}
-use Rattle.packing.specs.Laws.Written.{same-false, same-true}
+use Rattle.packing.specs.Laws.Written.{same-false}
 use Rattle.packing.specs.Written.{actOf, actionEntry}
-use Rattle.packing.specs.Job.{Act, eqAct}
-use Rattle.packing.specs.Rows.{sameUpto}
+use mathlib.Core.Path.{sym, _∙_}
+use borrow.Author.Needs.{needs}
 use Rattle.packing.proofs.row.same_row.Statement.{statement}
 use Rattle.packing.proofs.row.same_row.Tie as tie
 
--- the written action row of s as the code reads it
-abbrev entry : Sizes → List ℤ → ℕ → ℕ → ℕ → Act
-entry z table q s a = actOf (actionEntry z table q s a)
+action-entry-requires : tie.Need-action-entry-requires
+action-entry-requires c κs = search needs
 
-abbrev Inv-loop : tie.InvT-loop
-Inv-loop z table p j q s a₀ a = (a ≤ z .terminals) × (sameUpto (entry z table p j) (entry z table q s) a ≡ true)
+action-entry-requires-2 : tie.Need-action-entry-requires-2
+action-entry-requires-2 c κs = search needs
 
-abbrev μ-loop : tie.MeasureT-loop
-μ-loop z table p j q s a₀ a = z .terminals - a
+same-entry-requires : tie.Need-same-entry-requires
+same-entry-requires c κs = search needs
 
-loop-holds : tie.Need-loop-holds Inv-loop μ-loop
-loop-holds c = (omega arith, refl)
+same-columns-requires : tie.Need-same-columns-requires
+same-columns-requires c κs = search needs
 
-action-entry-requires : tie.Need-action-entry-requires Inv-loop μ-loop
-action-entry-requires c κs = tt
+same-columns-requires-2 : tie.Need-same-columns-requires-2
+same-columns-requires-2 c κs = search needs
 
-action-entry-requires-2 : tie.Need-action-entry-requires-2 Inv-loop μ-loop
-action-entry-requires-2 c κs = tt
+returns : tie.Need-returns
+returns c = search needs
 
-same-entry-requires : tie.Need-same-entry-requires Inv-loop μ-loop
-same-entry-requires c κs = tt
-
-returns : tie.Need-returns Inv-loop μ-loop
-returns c = sym (same-false (entry _ _ _ _) (entry _ _ _ _) _ _ (c .before .before .before .before .if1 .taken) (ap₂ eqAct (ap actOf (sym (c .before .before .before .action-entry .ensures))) (ap actOf (sym (c .before .before .action-entry2 .ensures))) ∙ sym (c .before .same-entry .ensures) ∙ not-true _ (c .if2 .taken)))
-
-add-a : tie.Need-add-a Inv-loop μ-loop
-add-a c = omega arith
-
-loop-less : tie.Need-loop-less Inv-loop μ-loop
-loop-less c = omega arith
-
-loop-again : tie.Need-loop-again Inv-loop μ-loop
-loop-again c = (omega arith, same-true (entry _ _ _ _) (entry _ _ _ _) _ (c .before .before .before .before .before .before .loop .inv .1) (ap₂ eqAct (ap actOf (sym (c .before .before .before .action-entry .ensures))) (ap actOf (sym (c .before .before .action-entry2 .ensures))) ∙ sym (c .before .same-entry .ensures) ∙ not-false _ (c .if2 .left)))
-
-returns-2 : tie.Need-returns-2 Inv-loop μ-loop
+returns-2 : tie.Need-returns-2
 returns-2 c =
-    let e : c .before .before .loop .a ≡ c .before .before .before .args .z .terminals = omega arith in
-    sym (rw e at (c .before .before .loop .inv .1))
+    let a = c .before .before .before .before .before .before .args in
+    sym
+    (same-false (λ b. actOf (actionEntry (a .z) (a .table .now) (a .p) (a .j) b)) (λ b. actOf (actionEntry (a .z) (a .table .now) (a .q) (a .s) b)) (a .z .terminals) (a .column)
+    (c .before .before .before .before .if1 .taken)
+    (rw (c .before .before .before .action-entry .ensures, c .before .before .action-entry2 .ensures) at (sym (c .before .same-entry .ensures)) ∙ c .if2 .left))
+
+returns-3 : tie.Need-returns-3
+returns-3 c = search needs
 
 pub same-row-spec : {M : Type 1} → statement M
 same-row-spec =
     tie.close
     (tie.spec
-    Inv-loop
-    μ-loop
-    loop-holds
     action-entry-requires
     action-entry-requires-2
     same-entry-requires
+    same-columns-requires
+    same-columns-requires-2
     returns
-    add-a
-    loop-less
-    loop-again
-    returns-2)
+    returns-2
+    returns-3)
