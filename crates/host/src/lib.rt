@@ -1,6 +1,8 @@
 // What Rust calls: the operations on numbers and slices.
 mod judge;
 mod pack;
+mod parse;
+mod plain;
 mod read;
 mod words;
 
@@ -11,4 +13,14 @@ pub struct Answer {
     pub count: u32,
     pub first: usize,
     pub second: usize,
+}
+
+// The same, with the count of moves.
+#[repr(C)]
+pub struct ParseAnswer {
+    pub number: u32,
+    pub count: u32,
+    pub first: usize,
+    pub second: usize,
+    pub moves: u32,
 }

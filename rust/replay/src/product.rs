@@ -1,6 +1,6 @@
 //! The product, as far as it has the operations.
 
-use cases::{Answer, Array, Ask, Cells, Counts, Given, Grammar, Op, Signing, Sizes};
+use cases::{Answer, Array, Ask, Cells, Counts, Given, Grammar, Op, Run, Signing, Sizes};
 use slettrein::Said;
 
 use crate::Program;
@@ -10,7 +10,7 @@ pub struct Product;
 
 impl Product {
     /// The operations that the product has.
-    pub const OPERATIONS: [Op; 2] = [Op::Pack, Op::Read];
+    pub const OPERATIONS: [Op; 3] = [Op::Pack, Op::Read, Op::Plain];
 }
 
 impl Program for Product {
@@ -19,8 +19,8 @@ impl Program for Product {
         match ask {
             Ask::Pack { given, cells, marks, place } => pack(given, cells, marks, place),
             Ask::Read { counts, cells, x, a } => read(counts, cells, *x, *a),
+            Ask::Plain { given, run } => plain(given, run),
             Ask::Parse { .. }
-            | Ask::Plain { .. }
             | Ask::Check { .. }
             | Ask::SheetRead { .. }
             | Ask::SheetWrite { .. }
@@ -85,4 +85,25 @@ fn read(counts: &Counts, cells: &Cells, x: usize, a: usize) -> Answer {
     let counts = slettrein::Counts { terminals, symbols, rules };
     let cells = slettrein::Cells { base: &cells.base, check: &cells.check };
     answer(slettrein::read(counts, cells, x, a), Vec::new())
+}
+
+/// Parsing with the table; the count of moves is told past the numbers 1 to 4.
+fn plain(given: &Given, run: &Run) -> Answer {
+    let (mut stack, mut list) = (run.stack.clone(), run.list.clone());
+    let lent = slettrein::Run {
+        tokens: &run.tokens,
+        limit: run.limit,
+        stack: &mut stack,
+        list: &mut list,
+    };
+    let (said, moves) = slettrein::plain(
+        lend_sizes(&given.sizes),
+        lend_grammar(&given.grammar),
+        &given.table,
+        lend_signing(&given.signing),
+        lent,
+    );
+    let told = said.number == 0 || said.number > 4;
+    let arrays = vec![("stack", Array::Unsigned(stack)), ("list", Array::Unsigned(list))];
+    Answer { moves: told.then_some(moves), ..answer(said, arrays) }
 }

@@ -9,6 +9,16 @@ pub struct Words {
     pub second: usize,
 }
 
+/// The same, with the count of moves.
+#[repr(C)]
+pub struct ParseWords {
+    pub number: u32,
+    pub count: u32,
+    pub first: usize,
+    pub second: usize,
+    pub moves: u32,
+}
+
 // A slice passes as a pointer and then a length, each an argument of its own.
 extern "C" {
     fn slettrein_judge(
@@ -56,6 +66,32 @@ extern "C" {
         place: *mut u32,
         place_len: usize,
     ) -> Words;
+
+    fn slettrein_plain(
+        terminals: u32,
+        symbols: u32,
+        rules: u32,
+        states: u32,
+        left: *const u32,
+        left_len: usize,
+        lens: *const u32,
+        lens_len: usize,
+        rights: *const u32,
+        rights_len: usize,
+        table: *const i32,
+        table_len: usize,
+        srule: *const u32,
+        srule_len: usize,
+        sgoto: *const u32,
+        sgoto_len: usize,
+        tokens: *const u32,
+        tokens_len: usize,
+        limit: u32,
+        stack: *mut u32,
+        stack_len: usize,
+        list: *mut u32,
+        list_len: usize,
+    ) -> ParseWords;
 
     fn slettrein_read(
         terminals: u32,
@@ -159,6 +195,46 @@ pub fn read(
             check.len(),
             x,
             a,
+        )
+    }
+}
+
+/// Parsing with the filled table; the stack and the list are lent.
+pub fn plain(
+    [terminals, symbols, rules, states]: [u32; 4],
+    [left, lens, rights]: [&[u32]; 3],
+    table: &[i32],
+    [srule, sgoto]: [&[u32]; 2],
+    tokens: &[u32],
+    limit: u32,
+    [stack, list]: [&mut [u32]; 2],
+) -> ParseWords {
+    // As above.
+    unsafe {
+        slettrein_plain(
+            terminals,
+            symbols,
+            rules,
+            states,
+            left.as_ptr(),
+            left.len(),
+            lens.as_ptr(),
+            lens.len(),
+            rights.as_ptr(),
+            rights.len(),
+            table.as_ptr(),
+            table.len(),
+            srule.as_ptr(),
+            srule.len(),
+            sgoto.as_ptr(),
+            sgoto.len(),
+            tokens.as_ptr(),
+            tokens.len(),
+            limit,
+            stack.as_mut_ptr(),
+            stack.len(),
+            list.as_mut_ptr(),
+            list.len(),
         )
     }
 }

@@ -51,6 +51,15 @@ pub struct CellsMut<'a> {
     pub marks: &'a mut [u32],
 }
 
+/// What a parse runs on: the tokens, the move limit, and the stack and the list that are lent.
+#[derive(Debug)]
+pub struct Run<'a> {
+    pub tokens: &'a [u32],
+    pub limit: usize,
+    pub stack: &'a mut [u32],
+    pub list: &'a mut [u32],
+}
+
 /// The number of an answer and the values that come with it.
 #[derive(Clone, Debug, PartialEq, Eq)]
 pub struct Said {
@@ -108,6 +117,30 @@ pub fn pack(
 pub fn read(counts: Counts, cells: Cells, x: usize, a: usize) -> Said {
     let numbers = [counts.terminals, counts.symbols, counts.rules].map(word);
     said(border::read(numbers, [cells.base, cells.check], x, word(a)))
+}
+
+/// Parses the tokens with the filled table, in so many moves at most: OK with the counts of
+/// reductions and moves, or a refusal; the count of moves comes beside it.
+///
+/// The list holds the reductions made, then 0.
+pub fn plain(
+    sizes: Sizes,
+    grammar: Grammar,
+    table: &[i32],
+    signing: Signing,
+    run: Run,
+) -> (Said, u64) {
+    let words = border::plain(
+        sizes.words(),
+        [grammar.left, grammar.lens, grammar.rights],
+        table,
+        [signing.srule, signing.sgoto],
+        run.tokens,
+        word(run.limit),
+        [run.stack, run.list],
+    );
+    let border::ParseWords { number, count, first, second, moves } = words;
+    (said(border::Words { number, count, first, second }), u64::from(moves))
 }
 
 impl Sizes {
