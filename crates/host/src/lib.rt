@@ -1,6 +1,7 @@
 // What Rust calls: the operations on numbers and slices.
 mod judge;
 mod pack;
+mod packed;
 mod parse;
 mod plain;
 mod read;

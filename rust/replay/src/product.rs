@@ -10,7 +10,7 @@ pub struct Product;
 
 impl Product {
     /// The operations that the product has.
-    pub const OPERATIONS: [Op; 3] = [Op::Pack, Op::Read, Op::Plain];
+    pub const OPERATIONS: [Op; 4] = [Op::Pack, Op::Read, Op::Parse, Op::Plain];
 }
 
 impl Program for Product {
@@ -20,8 +20,8 @@ impl Program for Product {
             Ask::Pack { given, cells, marks, place } => pack(given, cells, marks, place),
             Ask::Read { counts, cells, x, a } => read(counts, cells, *x, *a),
             Ask::Plain { given, run } => plain(given, run),
-            Ask::Parse { .. }
-            | Ask::Check { .. }
+            Ask::Parse { counts, grammar, cells, run } => parse(counts, grammar, cells, run),
+            Ask::Check { .. }
             | Ask::SheetRead { .. }
             | Ask::SheetWrite { .. }
             | Ask::PackSheet { .. } => Answer::none(),
@@ -79,31 +79,41 @@ fn pack(given: &Given, cells: &Cells, marks: &[u32], place: &[u32]) -> Answer {
     answer(said, arrays)
 }
 
-/// A single read.
-fn read(counts: &Counts, cells: &Cells, x: usize, a: usize) -> Answer {
+/// T, M and G as the product takes them.
+fn lend_counts(counts: &Counts) -> slettrein::Counts {
     let Counts { terminals, symbols, rules } = *counts;
-    let counts = slettrein::Counts { terminals, symbols, rules };
-    let cells = slettrein::Cells { base: &cells.base, check: &cells.check };
-    answer(slettrein::read(counts, cells, x, a), Vec::new())
+    slettrein::Counts { terminals, symbols, rules }
 }
 
-/// Parsing with the table; the count of moves is told past the numbers 1 to 4.
-fn plain(given: &Given, run: &Run) -> Answer {
+/// The cells as the product takes them.
+fn lend_cells(cells: &Cells) -> slettrein::Cells<'_> {
+    slettrein::Cells { base: &cells.base, check: &cells.check }
+}
+
+/// A single read.
+fn read(counts: &Counts, cells: &Cells, x: usize, a: usize) -> Answer {
+    answer(slettrein::read(lend_counts(counts), lend_cells(cells), x, a), Vec::new())
+}
+
+/// Parses by `call`, with copies of the stack and the list; the count of moves is told past the numbers 1 to 4.
+fn parsed(run: &Run, call: impl FnOnce(slettrein::Run) -> (Said, u64)) -> Answer {
     let (mut stack, mut list) = (run.stack.clone(), run.list.clone());
-    let lent = slettrein::Run {
-        tokens: &run.tokens,
-        limit: run.limit,
-        stack: &mut stack,
-        list: &mut list,
-    };
-    let (said, moves) = slettrein::plain(
-        lend_sizes(&given.sizes),
-        lend_grammar(&given.grammar),
-        &given.table,
-        lend_signing(&given.signing),
-        lent,
-    );
+    let (tokens, limit) = (&run.tokens[..], run.limit);
+    let (said, moves) = call(slettrein::Run { tokens, limit, stack: &mut stack, list: &mut list });
     let told = said.number == 0 || said.number > 4;
     let arrays = vec![("stack", Array::Unsigned(stack)), ("list", Array::Unsigned(list))];
     Answer { moves: told.then_some(moves), ..answer(said, arrays) }
+}
+
+/// Parsing with cells.
+fn parse(counts: &Counts, grammar: &Grammar, cells: &Cells, run: &Run) -> Answer {
+    let (counts, grammar, cells) = (lend_counts(counts), lend_grammar(grammar), lend_cells(cells));
+    parsed(run, |lent| slettrein::parse(counts, grammar, cells, lent))
+}
+
+/// Parsing with the table.
+fn plain(given: &Given, run: &Run) -> Answer {
+    let (sizes, grammar) = (lend_sizes(&given.sizes), lend_grammar(&given.grammar));
+    let signing = lend_signing(&given.signing);
+    parsed(run, |lent| slettrein::plain(sizes, grammar, &given.table, signing, lent))
 }

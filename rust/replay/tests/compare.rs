@@ -10,7 +10,7 @@ use common::base_seed;
 use replay::{random_cases, Product, Program, Second};
 
 /// Random cases of each operation that are compared.
-const COUNT: u64 = 1_500;
+const COUNT: u64 = 5_000;
 
 /// Compares two programs over random cases of an operation and panics at the first difference; gives
 /// the number of cases compared, which is 0 where the product does not have the operation.

@@ -93,6 +93,29 @@ extern "C" {
         list_len: usize,
     ) -> ParseWords;
 
+    fn slettrein_parse(
+        terminals: u32,
+        symbols: u32,
+        rules: u32,
+        left: *const u32,
+        left_len: usize,
+        lens: *const u32,
+        lens_len: usize,
+        rights: *const u32,
+        rights_len: usize,
+        base: *const i32,
+        base_len: usize,
+        check: *const i32,
+        check_len: usize,
+        tokens: *const u32,
+        tokens_len: usize,
+        limit: u32,
+        stack: *mut u32,
+        stack_len: usize,
+        list: *mut u32,
+        list_len: usize,
+    ) -> ParseWords;
+
     fn slettrein_read(
         terminals: u32,
         symbols: u32,
@@ -228,6 +251,42 @@ pub fn plain(
             srule.len(),
             sgoto.as_ptr(),
             sgoto.len(),
+            tokens.as_ptr(),
+            tokens.len(),
+            limit,
+            stack.as_mut_ptr(),
+            stack.len(),
+            list.as_mut_ptr(),
+            list.len(),
+        )
+    }
+}
+
+/// Parsing with cells; the stack and the list are lent.
+pub fn parse(
+    [terminals, symbols, rules]: [u32; 3],
+    [left, lens, rights]: [&[u32]; 3],
+    [base, check]: [&[i32]; 2],
+    tokens: &[u32],
+    limit: u32,
+    [stack, list]: [&mut [u32]; 2],
+) -> ParseWords {
+    // As above.
+    unsafe {
+        slettrein_parse(
+            terminals,
+            symbols,
+            rules,
+            left.as_ptr(),
+            left.len(),
+            lens.as_ptr(),
+            lens.len(),
+            rights.as_ptr(),
+            rights.len(),
+            base.as_ptr(),
+            base.len(),
+            check.as_ptr(),
+            check.len(),
             tokens.as_ptr(),
             tokens.len(),
             limit,

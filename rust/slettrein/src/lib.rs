@@ -139,8 +139,20 @@ pub fn plain(
         word(run.limit),
         [run.stack, run.list],
     );
-    let border::ParseWords { number, count, first, second, moves } = words;
-    (said(border::Words { number, count, first, second }), u64::from(moves))
+    parsed(words)
+}
+
+/// Parses the tokens with cells, as [`plain`] does with the table; damaged cells are BADCELL.
+pub fn parse(counts: Counts, grammar: Grammar, cells: Cells, run: Run) -> (Said, u64) {
+    let words = border::parse(
+        [counts.terminals, counts.symbols, counts.rules].map(word),
+        [grammar.left, grammar.lens, grammar.rights],
+        [cells.base, cells.check],
+        run.tokens,
+        word(run.limit),
+        [run.stack, run.list],
+    );
+    parsed(words)
 }
 
 impl Sizes {
@@ -159,4 +171,10 @@ fn word(n: usize) -> u32 {
 fn said(words: border::Words) -> Said {
     let values = [words.first as u64, words.second as u64];
     Said { number: words.number, values: values[..words.count as usize].to_vec() }
+}
+
+/// An answer and the count of moves.
+fn parsed(words: border::ParseWords) -> (Said, u64) {
+    let border::ParseWords { number, count, first, second, moves } = words;
+    (said(border::Words { number, count, first, second }), u64::from(moves))
 }

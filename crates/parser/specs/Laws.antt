@@ -1,0 +1,4 @@
+pub mod Judged
+pub mod Simulated
+pub mod Packed
+pub mod Outcome

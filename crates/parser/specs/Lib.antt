@@ -1,0 +1,4 @@
+pub mod Reads
+pub mod Outcome
+pub mod Laws
+pub mod Theorems
