@@ -3,10 +3,12 @@
 
 mod judge;
 mod pack;
+mod parse;
 mod table;
 mod timing;
 
 fn main() {
     judge::run();
     pack::run();
+    parse::run();
 }
