@@ -1,3 +1,3 @@
 // The parser over packed cells: the machine of 'One move', whose reads are reads of cells.
-pub mod moves;
+mod moves;
 pub mod parse;
