@@ -1,4 +1,5 @@
 pub mod Judged
 pub mod Simulated
 pub mod Packed
+pub mod Step
 pub mod Outcome

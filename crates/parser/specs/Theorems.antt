@@ -1,11 +1,12 @@
 -- What the parser promises. Each theorem is proved by one application of a law. Assumes nothing.
 use mathlib.Core.Path.{_≡_}
 use mathlib.Core.Logic.{_≢_}
+use mathlib.Core.Bool.{true}
 use mathlib.Core.Option.{some}
 use mathlib.Core.List.{List, [], _∷_}
-use Prim.Native.Nat.{ℕ, _≤_, _<_}
+use Prim.Native.Nat.{ℕ, suc, _≤_, _<_}
 use lib.IntN.{ℤ}
-use lib.ListN.{getD}
+use lib.ListN.{length, getD, set}
 use Rattle.tables.specs.declared.Sizes.{Sizes}
 use Rattle.tables.specs.Said.{OK}
 use Rattle.tables.specs.Grammar.{Grammar, grammar}
@@ -18,12 +19,15 @@ use Rattle.packing.specs.Packing.{result, packed}
 use Rattle.machine.specs.declared.Parsed.{Parsed}
 use Rattle.machine.specs.Reads.{plainReads}
 use Rattle.machine.specs.Machine.{Job, start, parse}
+use Rattle.machine.specs.Arrays.{rulesOf, begin, parseAt}
 use Rattle.machine.specs.Outcome.{saidOf, movesOf, outcome, plainParse}
 use Rattle.machine.specs.Laws.Simulation.{carryStep}
 use Rattle.machine.specs.Laws.Steps.{steps, Made, parse-made}
 use Rattle.parser.specs.Reads.{cellReads}
-use Rattle.parser.specs.Outcome.{packedParse}
+use Rattle.parser.specs.Outcome.{packedFits, packedParse}
+use Rattle.parser.specs.Step.{stepsAt}
 use Rattle.parser.specs.Laws.Simulated.{steps-same, outcome-same}
+use Rattle.parser.specs.Laws.Step.{ended, steps-parse}
 use Rattle.parser.specs.Laws.Outcome.{parse-once, packed-parsed, packed-whole}
 
 module _ (z : Sizes) (states : ℕ) (left lens rights : List ℕ) (table : List ℤ) (srule sgoto : List ℕ) where
@@ -54,6 +58,13 @@ module _ (z : Sizes) (states : ℕ) (left lens rights : List ℕ) (table : List 
 pub counted : (g : Grammar) (rules : ℕ) (base check : List ℤ) (j : Job) (limit : ℕ) → 0 < j .stack
     → Made g (cellReads rules base check) j limit start (parse g (cellReads rules base check) j limit)
 counted g rules base check = parse-made g (cellReads rules base check)
+
+-- With any cells, steps in turn from the beginning are the run: its end comes with the last of them, and the stack and the list are as it leaves them.
+pub stepwise : (z : Sizes) (left lens : List ℕ) (base check : List ℤ) (tokens : List ℕ) (limit : ℕ) → packedFits base check tokens limit ≡ true
+    → (stack list : List ℕ) → length stack ≢ 0
+    → stepsAt z left lens base check tokens limit (suc limit) begin (set stack 0 0) list
+    ≡ ended (parseAt (cellReads (z .rules) base check) (rulesOf left lens) (z .terminals) tokens limit stack list)
+stepwise = steps-parse
 
 -- Any two outcomes that the contract of `parse` allows for one input are equal.
 pub once : (z : Sizes) (left lens rights : List ℕ) (base check : List ℤ) (tokens : List ℕ) (limit : ℕ) (stack list : List ℕ) (a b : Parsed) {stack₁ list₁ stack₂ list₂ : List ℕ}

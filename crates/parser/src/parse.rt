@@ -67,7 +67,7 @@ fn run(
 }
 
 // Base, Check, tokens and limit are in their bounds.
-fn packed_fits(base: &[i32], check: &[i32], tokens: &[u32], limit: u32) -> bool
+pub(crate) fn packed_fits(base: &[i32], check: &[i32], tokens: &[u32], limit: u32) -> bool
     ensures { λ r. ⌜ r ≡ packedFits (now (base .entry)) (now (check .entry)) (now (tokens .entry)) limit ⌝ }
 {
     cells_fit(base, check) && job_fits(tokens, limit)
