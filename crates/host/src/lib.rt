@@ -1,27 +1,2 @@
-// What Rust calls: the operations on numbers and slices.
-mod judge;
-mod pack;
-mod packed;
+// What the match service calls from Rust: the operations on numbers and slices.
 mod parse;
-mod plain;
-mod read;
-mod words;
-
-// The number of an answer, how many values come with it, and the values; 0 where there is none.
-#[repr(C)]
-pub struct Answer {
-    pub number: u32,
-    pub count: u32,
-    pub first: usize,
-    pub second: usize,
-}
-
-// The same, with the count of moves.
-#[repr(C)]
-pub struct ParseAnswer {
-    pub number: u32,
-    pub count: u32,
-    pub first: usize,
-    pub second: usize,
-    pub moves: u32,
-}

@@ -1,52 +1,45 @@
-// What a parse says, as numbers.
+// The parser over cells, exported.
 ghost use mathlib.Core.Path.{_≡_};
-ghost use Rattle.machine.specs.Outcome.{saidOf, movesOf};
-ghost use Rattle.machine.specs.Outcome.{answerOf as endOf};
-ghost use Rattle.host.specs.Answer.{answerOf, counted};
-use crate::Answer;
-use crate::ParseAnswer;
-use crate::judge::judged;
-use crate::words::with_one;
-use crate::words::with_two;
-use machine::Answer as End;
-use machine::Parsed;
+ghost use Rattle.parser.specs.Outcome.{packedParse};
+ghost use Rattle.answers.specs.Ended.{ended, endedOf};
+use answers::ParseAnswer;
+use answers::parsed::parsed;
+use tables::Sizes;
 
-// What an end says after this many moves.
-fn ended(e: End, moves: u32) -> Answer
-    ensures { λ r. ⌜ r ≡ answerOf (endOf e moves) ⌝ }
+// Parses the tokens with the cells: OK, or a refusal 1, 2 or 7 to 14.
+#[no_mangle]
+pub extern "C" fn slettrein_parse(
+    terminals: u32,
+    symbols: u32,
+    rules: u32,
+    left: &[u32],
+    lens: &[u32],
+    rights: &[u32],
+    base: &[i32],
+    check: &[i32],
+    tokens: &[u32],
+    limit: u32,
+    stack: &mut [u32],
+    list: &mut [u32],
+) -> ParseAnswer
+    ensures { λ r. ⌜ ended r (now (stack .exit)) (now (list .exit)) ≡ endedOf (packedParse (record { terminals = terminals; symbols = symbols; rules = rules }) (now (left .entry)) (now (lens .entry)) (now (rights .entry)) (now (base .entry)) (now (check .entry)) (now (tokens .entry)) limit (now (stack .entry)) (now (list .entry))) ⌝ }
 {
-    match e {
-        End::Accepted(n) => with_two(0, n, moves as usize),
-        End::Token(i) => with_one(7, i),
-        End::Syntax(i) => with_one(8, i),
-        End::Underflow(i, r) => with_two(9, i, r as usize),
-        End::NoGoto(i, r) => with_two(10, i, r as usize),
-        End::Stack(i) => with_one(11, i),
-        End::Output(i) => with_one(12, i),
-        End::Moves(i) => with_one(13, i),
-        End::BadCell(x) => with_one(14, x as usize),
-    }
-}
-
-// An answer with the count of moves.
-fn with_moves(a: Answer, moves: u32) -> ParseAnswer
-    ensures { λ r. ⌜ r ≡ counted a moves ⌝ }
-{
-    ParseAnswer {
-        number: a.number,
-        count: a.count,
-        first: a.first,
-        second: a.second,
-        moves: moves,
-    }
-}
-
-// What a parse says.
-pub(crate) fn parsed(p: Parsed) -> ParseAnswer
-    ensures { λ r. ⌜ r ≡ counted (answerOf (saidOf p)) (movesOf p) ⌝ }
-{
-    match p {
-        Parsed::Refused(j) => with_moves(judged(j), 0),
-        Parsed::Ended(e, moves) => with_moves(ended(e, moves), moves),
-    }
+    let z = Sizes {
+        terminals: terminals,
+        symbols: symbols,
+        rules: rules,
+    };
+    let p = parser::parse::parse(
+        z,
+        left,
+        lens,
+        rights,
+        base,
+        check,
+        tokens,
+        limit,
+        stack,
+        list,
+    );
+    parsed(p)
 }

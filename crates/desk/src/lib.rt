@@ -1,0 +1,5 @@
+// What a curator's tools call from Rust: the operations on numbers and slices.
+mod judge;
+mod pack;
+mod plain;
+mod read;
