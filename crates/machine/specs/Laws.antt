@@ -5,5 +5,6 @@ pub mod Standing
 pub mod Joined
 pub mod Runs
 pub mod Turns
+pub mod Refused
 pub mod Outcome
 pub mod Plain

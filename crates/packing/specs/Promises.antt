@@ -9,20 +9,15 @@ use Rattle.tables.specs.declared.Action.the-variants as action
 use Rattle.tables.specs.declared.Goto.{Goto}
 use Rattle.tables.specs.declared.Goto.the-variants as goto
 use Rattle.cells.specs.declared.Way.{Way}
-use Rattle.cells.specs.declared.Way.the-variants.{Direct, Pointer}
 use Rattle.cells.specs.declared.Read.{Read}
 use Rattle.cells.specs.declared.Read.the-variants.{Shift, Reduce, Accept, Blank}
+use Rattle.cells.specs.Parts.{wayCell}
 use Rattle.packing.specs.Job.{Job}
 use Rattle.packing.specs.Packed.{Packed, bound, pack}
 
--- the cell of the state that a shift gives
-abbrev pub cellOf : Way → ℕ
-cellOf (Direct y) = y
-cellOf (Pointer y) = y
-
 -- the read is a shift to the state at cell y, directly or through a pointer
 abbrev pub ShiftsTo : Read → ℕ → Type 0
-ShiftsTo r y = (w : Way) × (cellOf w ≡ y) × (r ≡ Shift w)
+ShiftsTo r y = (w : Way) × (wayCell w ≡ y) × (r ≡ Shift w)
 
 -- the read says what the filled table says of a terminal, with a shift's state carried to its cell by the place list
 abbrev pub Carries : List ℕ → Read → Action → Type 0

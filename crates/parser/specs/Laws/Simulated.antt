@@ -27,7 +27,7 @@ use Rattle.cells.specs.Laws.Size.{fit-cells}
 use Rattle.packing.specs.Job.{jobOf}
 use Rattle.packing.specs.Packed.{Packed, pack}
 use Rattle.packing.specs.Valid.{Valid, Edition}
-use Rattle.packing.specs.Promises.{cellOf, Carries, CarriesGoto, Housed, Sized}
+use Rattle.packing.specs.Promises.{Carries, CarriesGoto, Housed, Sized}
 use Rattle.packing.specs.Theorems as packing
 use Rattle.machine.specs.Reads as machine
 use Rattle.machine.specs.Reads.{plainReads}
@@ -41,22 +41,18 @@ use Rattle.parser.specs.Reads.{actOf, goOf, cellReads}
 use Rattle.parser.specs.Outcome.{packedFits, packedParse}
 use Rattle.parser.specs.Laws.Judged.{grammar-good}
 
-same-cell : (w : Way) → wayCell w ≡ cellOf w
-same-cell (Direct y) = refl
-same-cell (Pointer y) = refl
-
 -- ---- a read that carries an entry
 
 module _ (places : List ℕ) (r : Read) where
   act-carried : (a : Action) → Carries places r a → actOf r ≡ carryAct (λ s. getD places s 0) (machine.actOf a)
   act-carried action.Blank h = ap actOf h
-  act-carried (action.Shift t) h = ap actOf (h .2) ∙ ap machine.shift (same-cell (h .0) ∙ h .1)
+  act-carried (action.Shift t) h = ap actOf (h .2) ∙ ap machine.shift (h .1)
   act-carried (action.Reduce q) h = ap actOf h
   act-carried action.Accept h = ap actOf h
 
   go-carried : (x : Goto) → CarriesGoto places r x → goOf r ≡ carryGo (λ s. getD places s 0) (machine.goOf x)
   go-carried goto.Blank h = ap goOf h
-  go-carried (goto.To t) h = ap goOf (h .2) ∙ ap machine.goes (same-cell (h .0) ∙ h .1)
+  go-carried (goto.To t) h = ap goOf (h .2) ∙ ap machine.goes (h .1)
 
 -- ---- packed cells
 
