@@ -1,0 +1,20 @@
+use mathlib.Core.Path.{sym}
+use lib.Seq.{set-out}
+use borrow.Author.Needs.{needs}
+use Rattle.soundness.proofs.flags.put_in.Statement.{statement}
+use Rattle.soundness.proofs.flags.put_in.Tie as tie
+
+slice-write-s : tie.Need-slice-write-s
+slice-write-s c = search needs
+
+same-length : tie.Need-same-length
+same-length c = search needs
+
+returns : tie.Need-returns
+returns c = search needs
+
+returns-2 : tie.Need-returns-2
+returns-2 c = sym (set-out _ _ _ (c .if1 .left))
+
+pub put-in-spec : {M : Type 1} → statement M
+put-in-spec = tie.close (tie.spec slice-write-s same-length returns returns-2)

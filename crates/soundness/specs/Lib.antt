@@ -1,0 +1,9 @@
+pub mod Path
+pub mod Derivation
+pub mod Verdict
+pub mod Lists
+pub mod Check
+pub mod Outcome
+pub mod Answer
+pub mod Laws
+pub mod Theorems
