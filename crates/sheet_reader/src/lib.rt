@@ -1,0 +1,2 @@
+// The reader of the signing sheet.
+pub mod read;

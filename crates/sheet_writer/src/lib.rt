@@ -1,0 +1,2 @@
+// The writer of the signing sheet.
+pub mod write;

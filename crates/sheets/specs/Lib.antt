@@ -1,0 +1,10 @@
+pub mod Decimal
+pub mod Sheet
+pub mod Lines
+pub mod Outcome
+pub mod Walk
+pub mod Meaning
+pub mod Emit
+pub mod Laws
+pub mod SmallSheet
+pub mod Theorems
