@@ -14,6 +14,8 @@ pub mod Words
 pub mod Derives
 pub mod Keeps
 pub mod Demand
+pub mod Yields
+pub mod Accepted
 pub mod Edges
 pub mod Ways
 pub mod Walk

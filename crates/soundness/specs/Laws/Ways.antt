@@ -97,9 +97,6 @@ module _ {z : Sizes} {states : ℕ} {table : List ℤ} (k : Tabled z states tabl
     abbrev new : ℕ
     new = joinedWay old x (z .symbols)
 
-    on-some : x ≢ 0
-    on-some = target-in k s x h l n .1
-
     inside : to < length ways
     inside = let b : to < states = target-in k s x h l n .0 in omega (arith, w .size, k .count .most)
 

@@ -1,0 +1,5 @@
+pub mod Board
+pub mod Asked
+pub mod Worked
+pub mod Laws
+pub mod Theorems

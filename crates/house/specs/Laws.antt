@@ -1,0 +1,6 @@
+pub mod Computed
+pub mod Copying
+pub mod Handed
+pub mod Meaning
+pub mod Stretch
+pub mod Worked
