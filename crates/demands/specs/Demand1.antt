@@ -1,8 +1,8 @@
--- Demand 1: every entry point takes any table, cells or token list and ends with an answer of 'What is said back', each refusal exactly under its stated condition, with the lent arrays as stated.
+-- Demand 1: every entry point takes any table, cells, sheet or token list and ends with an answer of 'What is said back', each refusal exactly under its stated condition, with the lent arrays as stated.
 -- To be believed: the contracts, by which `judge` says `judgement`, `pack` `packed`, `read` `readSaid`, `plain_parse` `plainParse`, `parse` `packedParse` and `check` `checked`, for every input;
 -- Moves and Says in this folder; number/specs Number; tables/specs Said, Lists, Size, Grammar, Entry, Signing, with `Passed` and `Least` of Laws/Lowest and `Verdict` of Laws/Judgement;
 -- cells/specs Read, Size, Asked; packing/specs Job, Rows, Board, Packed, with `Bench` of Bench, `arraysFit` of Packing and `wiped` of Turns; machine/specs Reads, Machine, Outcome, with `steps` of Laws/Steps;
--- parser/specs Reads, Outcome; soundness/specs Path, Verdict.
+-- parser/specs Reads, Outcome; soundness/specs Path, Verdict, Answer; sheets/specs Decimal, Sheet, Lines, Outcome.
 use mathlib.Core.Path.{_≡_, sym, ap, _∙_}
 use mathlib.Core.Logic.{_↔_, _⊎_}
 use mathlib.Core.List.{List}
@@ -31,9 +31,14 @@ use Rattle.machine.specs.Machine.{Job, Config, Step, move}
 use Rattle.machine.specs.Outcome.{saidOf, movesOf, Outcome, outcome, plainParse}
 use Rattle.machine.specs.Laws.Outcome.{outcome-once}
 use Rattle.parser.specs.Outcome.{packedParse}
-use Rattle.soundness.specs.Verdict as verdict
-use Rattle.soundness.specs.Outcome.{verdictSaid, checked}
-use Rattle.soundness.specs.Laws.Outcome.{verdict-once}
+use Rattle.soundness.specs.declared.Checked.{Checked}
+use Rattle.soundness.specs.Outcome.{checked}
+use Rattle.soundness.specs.Answer as check
+use Rattle.soundness.specs.Laws.Answer.{answer-once}
+use Rattle.sheets.specs.declared.Reading.{Reading}
+use Rattle.sheets.specs.declared.Writing.{Writing}
+use Rattle.sheets.specs.Outcome.{readSaid as sheetReadSaid, writeSaid, readOutcome, writeOutcome, sheetRead, sheetWrite}
+use Rattle.sheets.specs.Theorems as sheets
 use Rattle.demands.specs.Moves.{SaysMove, RunEnds}
 use Rattle.demands.specs.Says.{SaysGrammar, SaysParse, SaysRead, SaysPack, SaysPlain, SaysCheck}
 use Rattle.demands.specs.Laws.Runs as runs
@@ -76,9 +81,9 @@ module _ (z : Sizes) (states : ℕ) (left lens rights : List ℕ) (table : List 
   pub check-numbers : (checked z states left lens rights table srule sgoto .number ≤ 4) ⊎ (checked z states left lens rights table srule sgoto .number ≡ 6)
   check-numbers = numbers.check-number z states left lens rights table srule sgoto
 
-  -- Any two verdicts that it may give for one input are equal.
-  pub check-once : (a b : verdict.Verdict) → verdictSaid a ≡ checked z states left lens rights table srule sgoto → verdictSaid b ≡ checked z states left lens rights table srule sgoto → a ≡ b
-  check-once a b e f = verdict-once a b (e ∙ sym f)
+  -- Any two answers that its contract allows for one input are equal.
+  pub check-once : (a b : Checked) → check.saidOf a ≡ checked z states left lens rights table srule sgoto → check.saidOf b ≡ checked z states left lens rights table srule sgoto → a ≡ b
+  check-once a b e f = answer-once a b (e ∙ sym f)
 
   module _ (tokens : List ℕ) (limit : ℕ) (stack list : List ℕ) where
     -- `plain_parse` says each of its answers, and leaves stack and list, exactly as its rows have it: unchanged, or the stack all 0 and the list with the reductions made, then 0.
@@ -141,3 +146,16 @@ module _ (g : Grammar) (m : Reads) (j : Job) where
   -- A move says each of its answers exactly as its rows have it.
   pub move-exactly : (c : Config) (s : Step) → (move g m j c ≡ s) ↔ SaysMove g m j c s
   move-exactly = moves.move-exactly g m j
+
+module _ (z : Sizes) (states : ℕ) (srule sgoto : List ℕ) where
+  -- The sheet's reader says SIZE, LINE, SIGN or OK as its definition has it, the signing unchanged but with OK; any two outcomes that its contract allows for one input are equal, the signing too.
+  pub sheet-read-once : (text : List ℕ) (a b : Reading) {rules targets rules₂ targets₂ : List ℕ}
+      → readOutcome (sheetReadSaid a) rules targets ≡ sheetRead z states text srule sgoto → readOutcome (sheetReadSaid b) rules₂ targets₂ ≡ sheetRead z states text srule sgoto
+      → (a ≡ b) × (rules ≡ rules₂) × (targets ≡ targets₂)
+  sheet-read-once text a b = sheets.read-one-outcome a b _ _ _ _ (sheetRead z states text srule sgoto)
+
+  -- The writer says SIZE, SIGN, TEXT or OK as its definition has it, the buffer unchanged but with OK; any two outcomes that its contract allows for one input are equal, the buffer too.
+  pub sheet-write-once : (buffer : List ℕ) (a b : Writing) {after after₂ : List ℕ}
+      → writeOutcome (writeSaid a) after ≡ sheetWrite z states srule sgoto buffer → writeOutcome (writeSaid b) after₂ ≡ sheetWrite z states srule sgoto buffer
+      → (a ≡ b) × (after ≡ after₂)
+  sheet-write-once buffer a b = sheets.write-one-outcome a b _ _ (sheetWrite z states srule sgoto buffer)

@@ -1,15 +1,17 @@
--- Demand 2: packed cells answer as the written table with only the signed blanks filled, and a packed parse is the plain machine's, in reductions, refusal, place and count of moves.
+-- Demand 2: packed cells answer as the written table with only the signed blanks filled, and a packed parse is the plain machine's, in reductions, refusal, place and count of moves; a sheet written and read back is the same sheet, and no second text has its meaning.
 -- To be believed: demand 1 with what it names; Room in this folder; tables/specs Filled; packing/specs Promises; `Made` of machine/specs Laws/Steps, `carryStep` of machine/specs Laws/Simulation.
 use mathlib.Core.Path.{_≡_}
 use mathlib.Core.Logic.{_≢_}
+use mathlib.Core.Bool.{true}
 use mathlib.Core.List.{List, [], _∷_}
 use Prim.Native.Nat.{ℕ, _-_, _≤_, _<_}
 use lib.IntN.{ℤ}
-use lib.ListN.{length, getD}
+use lib.ListN.{length, getD, take}
 use Rattle.tables.specs.declared.Sizes.{Sizes}
 use Rattle.tables.specs.declared.Action.the-variants as action
 use Rattle.tables.specs.declared.Goto.the-variants as goto
 use Rattle.tables.specs.Said.{OK}
+use Rattle.tables.specs.Size.{signingFits}
 use Rattle.tables.specs.Grammar.{Grammar, grammar}
 use Rattle.tables.specs.Judgement.{judgement}
 use Rattle.tables.specs.Entry.{actionAt, gotoAt}
@@ -29,6 +31,9 @@ use Rattle.parser.specs.Outcome.{packedParse}
 use Rattle.parser.specs.Theorems as parser
 use Rattle.demands.specs.Room.{Takes}
 use Rattle.demands.specs.Laws.Room as room
+use Rattle.sheets.specs.Outcome.{readOutcome, sheetRead, sheetWrite}
+use Rattle.sheets.specs.Meaning.{Meaning}
+use Rattle.sheets.specs.Theorems as sheets
 use Rattle.demands.specs.Laws.Filled as filled
 use Rattle.demands.specs.Laws.Packed as laws
 
@@ -86,3 +91,21 @@ module _ (z : Sizes) (states : ℕ) (left lens rights : List ℕ) (table : List 
 pub moves-counted : (g : Grammar) (rules : ℕ) (base check : List ℤ) (j : Job) (limit : ℕ) → 0 < j .stack
     → Made g (cellReads rules base check) j limit start (parse g (cellReads rules base check) j limit)
 moves-counted = parser.counted
+
+module _ (z : Sizes) (states : ℕ) where
+  -- Where the writer says OK n, the first n bytes that it left are read as the signing that it wrote, whatever fitting signing was lent.
+  pub round : (srule sgoto buffer rules targets : List ℕ) (n : ℕ) → sheetWrite z states srule sgoto buffer .said ≡ OK (n ∷ [])
+      → signingFits z states rules targets ≡ true
+      → sheetRead z states (take n (sheetWrite z states srule sgoto buffer .buffer)) rules targets ≡ readOutcome (OK (n ∷ [])) srule sgoto
+  round = sheets.round z states
+
+  -- A text that is read as a signing is the text that is written for it.
+  pub unique : (text rules targets srule sgoto : List ℕ) (n : ℕ) → sheetRead z states text rules targets ≡ readOutcome (OK (n ∷ [])) srule sgoto
+      → Meaning z states text n srule sgoto
+  unique = sheets.unique z states
+
+  -- So two texts with one meaning are one text.
+  pub one-text : (text text₂ rules targets rules₂ targets₂ srule sgoto : List ℕ) (n n₂ : ℕ)
+      → sheetRead z states text rules targets ≡ readOutcome (OK (n ∷ [])) srule sgoto → sheetRead z states text₂ rules₂ targets₂ ≡ readOutcome (OK (n₂ ∷ [])) srule sgoto
+      → text ≡ text₂
+  one-text = sheets.one-text z states

@@ -50,7 +50,7 @@ module _ (tokens : List ℕ) (limit : ℕ) (stack list : List ℕ) where
   -- and where it says OK, the reductions read backwards are a rightmost derivation of exactly these tokens.
   pub derives : (n moves : ℕ) → houseParse tokens limit stack list .said ≡ OK (n ∷ moves ∷ [])
       → Rightmost houseGrammar (start ∷ []) (reverse (take n (houseParse tokens limit stack list .list))) tokens
-  derives = soundness.derives houseSizes houseStates houseLeft houseLens houseRights houseTable noRules noTargets house-checked tokens limit stack list
+  derives n moves e = soundness.derives houseSizes houseStates houseLeft houseLens houseRights houseTable noRules noTargets house-checked tokens limit stack list n moves e .1
 
   -- Nothing that the table accepts by itself is lost.
   pub keeps : (n : ℕ) → jobFits tokens limit ≡ true → parse houseGrammar (unsignedReads houseSizes houseTable) (job tokens stack list) limit .answer ≡ Accepted n

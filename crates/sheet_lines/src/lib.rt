@@ -1,4 +1,3 @@
 // Lines of a sheet, looked for and read at a place of a text.
 pub mod entry;
-pub mod reader;
 pub mod skip;

@@ -1,6 +1,6 @@
 -- The house notation computed. Assumes nothing.
 use mathlib.Core.Path.{_≡_, refl}
-use mathlib.Core.List.{List, []}
+use mathlib.Core.List.{[]}
 use Rattle.tables.specs.Said.{OK}
 use Rattle.tables.specs.Lists.{all, sum, among, orAt, lowest}
 use Rattle.tables.specs.Size.{numbersFit, statesFit, rightsFit, grammarFits, tableFits, signingFits, allFit}

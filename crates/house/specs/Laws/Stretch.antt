@@ -2,14 +2,14 @@
 use mathlib.Core.Path.{_≡_, refl, sym, ap, _∙_, subst}
 use mathlib.Core.Logic.{_⊎_, inl, inr}
 use mathlib.Core.Bool.{Bool, true, false, _||_}
-use mathlib.Core.List.{List, [], _∷_, _++_, append-nil, append-assoc, head-eq-of-cons-eq, tail-eq-of-cons-eq, List·Memᴰ·head, Memᴰ·append-right}
+use mathlib.Core.List.{List, [], _∷_, _++_, append-nil, head-eq-of-cons-eq, tail-eq-of-cons-eq, List·Memᴰ·head, Memᴰ·append-right}
 use Prim.Native.Nat.{ℕ}
 use lib.Dec.{eqb}
 use Rattle.tables.specs.Lists.{among}
 use Rattle.tables.specs.Laws.Tests.{clash}
 use Rattle.soundness.specs.Laws.Lists.{among-in}
 use Rattle.house.specs.Symbols.{VARIANT, CAPTURE}
-use Rattle.house.specs.Notation.{Direction, to-left, to-right, Laps, single, relay, Take, opposite, exact, nothing, Takes, one-take, and-then}
+use Rattle.house.specs.Notation.{to-left, to-right, single, relay, Take, opposite, exact, nothing, Takes, one-take, and-then}
 use Rattle.house.specs.Notation.{Variant, five-fields, Book, one-variant, and-variant, Ends, at-end, at-next}
 
 -- ---- lists
@@ -42,6 +42,7 @@ cut (x ∷ a) b (y ∷ c) d e = by (cut a b c d (cc))
 
 -- ---- one variant
 
+-- takes have no VARIANT
 take-plain : {w : List ℕ} → Take w → among VARIANT w ≡ false
 unfolding among
 take-plain opposite = refl
@@ -78,12 +79,14 @@ Captured tokens = (before inside after : List ℕ) → tokens ≡ before ++ ((VA
 not-within : {v : List ℕ} (k : Whole v) (u w : List ℕ) → k .rest ≡ u ++ (VARIANT ∷ w) → ⊥
 not-within k u w e = clash (among-joined VARIANT u w) (rw e at (k .no-other))
 
+-- a variant taken apart in another way
 rest-is : {v : List ℕ} (k : Whole v) {y : ℕ} {w : List ℕ} → v ≡ y ∷ w → k .rest ≡ w
 rest-is k {y} {w} e = tail-eq-of-cons-eq (sym (k .begins) ∙ e)
 
 head-is : {v : List ℕ} (k : Whole v) {y : ℕ} {w : List ℕ} → v ≡ y ∷ w → y ≡ VARIANT
 head-is k e = head-eq-of-cons-eq (sym e ∙ k .begins)
 
+-- in a variant by itself
 variant-captured : {v : List ℕ} → Whole v → Captured v
 variant-captured k [] inside after e p at-end = rw (rest-is k e ∙ append-nil inside) at (k .has-capture)
 variant-captured k [] inside after e p (at-next {w = w}) = absurd (not-within k inside w (rest-is k e))
@@ -108,6 +111,7 @@ within-book b v before inside after m k c e q p z = by (cut inside after m v q)
         let other : inside ≡ m ++ (VARIANT ∷ n) = f ∙ ap (λ (x : ℕ). m ++ (x ∷ n)) (head-is k h) in
         absurd (clash (among-joined VARIANT m n) (rw other at p))
 
+-- in a book and one more variant
 book-captured : {b v : List ℕ} → Captured b → Whole v → Captured (b ++ v)
 book-captured {b} {v} c k before inside after e p q = by (cut b v before ((VARIANT ∷ inside) ++ after) e)
   where
@@ -117,6 +121,7 @@ book-captured {b} {v} c k before inside after e p q = by (cut b v before ((VARIA
     by (inr (y ∷ m, f, h)) =
         within-book b v before inside after m k c (f ∙ ap (λ (x : ℕ). before ++ (x ∷ m)) (sym (head-eq-of-cons-eq h))) (tail-eq-of-cons-eq h) p q
 
+-- in every book
 pub captured : {w : List ℕ} → Book w → Captured w
 captured (one-variant v) = variant-captured (whole v)
 captured (and-variant b v) = book-captured (captured b) (whole v)

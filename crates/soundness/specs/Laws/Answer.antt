@@ -32,7 +32,7 @@ use Rattle.soundness.specs.Laws.Walk.{Entered}
 use Rattle.soundness.specs.Laws.Rules.{filledRows}
 use Rattle.soundness.specs.Laws.Faults.{Kept, Least, Good}
 
--- the answer that the table is sound, or names the least state and rule that fail
+-- the answer OK where the table is sound, or the least state and rule that fail
 pub data Told (g : Grammar) (u v : Reads) : Checked → Type 0 where
   told-sound : Sound g u v → Told g u v (Judgement judged-good)
   told-unsound : {s r : ℕ} → Unsound g u v s r → Told g u v (names s r)
@@ -98,7 +98,7 @@ module _ (z : Sizes) (states : ℕ) (left lens rights : List ℕ) (table : List 
   abbrev judged : Said
   judged = tables.judgement z states left lens rights table srule sgoto
 
-  abbrev rows : (s a : ℕ) → filledRows z table srule .act s a ≡ plainReads z table srule sgoto .act s a
+  rows : (s a : ℕ) → filledRows z table srule .act s a ≡ plainReads z table srule sgoto .act s a
   rows = acts-any z table srule [] sgoto
 
   -- rows of the filled table reduce by the same rules, whatever states are signed
@@ -118,6 +118,7 @@ module _ (z : Sizes) (states : ℕ) (left lens rights : List ℕ) (table : List 
     well : WellFormed z states left lens rights table srule sgoto
     well = ok-means z states left lens rights table srule sgoto ok
 
+    -- what the code asks for
     pub good : Good z states left lens rights table srule
     good =
         let f : SigningFits z states srule sgoto = signing-fits z states srule sgoto (well .all .signing) in
@@ -128,6 +129,7 @@ module _ (z : Sizes) (states : ℕ) (left lens rights : List ℕ) (table : List 
           within = λ s r k. proper-rules (well-proper well) s r (reduces-any refl rows k);
         }
 
+    -- the answer says what the check says
     pub told-checked : {c : Checked} → Told g u (filledRows z table srule) c → saidOf c ≡ checked z states left lens rights table srule sgoto
     told-checked (told-sound k) = sym (checked-exact z states left lens rights table srule sgoto sound .1 (ok, verdict-rows sound k))
     told-checked (told-unsound {s} {r} k) = sym (checked-exact z states left lens rights table srule sgoto (unsound s r) .1 (ok, verdict-rows (unsound s r) k))

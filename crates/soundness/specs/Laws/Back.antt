@@ -45,6 +45,7 @@ endsWell z table s first left t = cond (getD s t false) (standsBefore z table fi
 
 -- ---- a set that is worked out state by state
 
+-- the numbers below i are in the set where f says so, and no others are
 pub record Marked (f : ℕ → Bool) (i : ℕ) (s : List Bool) : Type 0 where
   pub size : length s ≡ 1024
   pub below : (p : ℕ) → p < i → getD s p false ≡ f p
@@ -81,18 +82,20 @@ last-symbol right (suc n) h l =
 
 -- ---- the sets of states where the paths into s stand
 
+-- t may stand before the right side
 abbrev pub Before : Sizes → List ℤ → Bool → ℕ → ℕ → Type 0
 Before z table first left t = standsBefore z table first left t ≡ true
 
--- some path fails, or every path passes
+-- true: some path into s fails at the symbols ys, the last first, or at the state before them; false: every path passes
 abbrev pub Answers : Sizes → List ℤ → Bool → ℕ → List ℕ → ℕ → Bool → Type 0
 Answers z table first left ys s true = Failing (bare z) (unsignedReads z table) (Before z table first left) ys s
 Answers z table first left ys s false = AllTails (bare z) (unsignedReads z table) (Before z table first left) ys s
 
--- the flags hold the states where the paths into s stand, when the last of the symbols ys are still to be read
+-- the flags hold the states where the paths into s stand, when of the symbols ys those in `last` are still to be read
 pub record Stand (z : Sizes) (table : List ℤ) (first : Bool) (left : ℕ) (ys : List ℕ) (s : ℕ) (flags : List Bool) (last : List ℕ) : Type 0 where
   pub column : Column (bare z) (unsignedReads z table) (Before z table first left) ys s (In flags) last
 
+-- a test of the states in a set alone
 test-in : (a b : Bool) → cond a b true ≡ true → a ≡ true → b ≡ true
 test-in true b h e = h
 test-in false b h e = absurd (clash e refl)

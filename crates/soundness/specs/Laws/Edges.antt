@@ -22,7 +22,7 @@ use Rattle.soundness.specs.Verdict.{Reduces, by-rule, by-accept}
 unfoldable pub targetAt : Sizes → List ℤ → ℕ → ℕ → ℕ
 targetAt z table s x = plusOf (entryAt z table s x)
 
--- ---- one entry
+-- ---- one entry: a shift or a goto is a positive number
 
 shift-plus : (e : ℤ) {t : ℕ} → actOf (actionOf (signOf e)) ≡ shift t → (plusOf e ≡ t) × (t ≢ 0)
 shift-plus (pos zero) h = let q : _≡_ {A = ℕ} 0 1 = cc in absurd (omega arith)
@@ -68,11 +68,13 @@ module _ (z : Sizes) (table : List ℤ) (s x : ℕ) where
       let g : goOf (gotoOf (signOf (entryAt z table s x))) ≡ goes (plusOf (entryAt z table s x)) = plus-goes (entryAt z table s x) n in
       let q : _≡_ {A = ℕ} 0 1 = cc in omega arith
 
--- ---- a grammar's symbols alone: edges and paths need no more
+-- ---- what needs little of a grammar and of a signing
 
+-- a grammar's symbols alone
 abbrev pub bare : Sizes → Grammar
 bare z = grammar z [] [] []
 
+-- edges and paths need no more of it
 module _ {g g′ : Grammar} (t : g .T ≡ g′ .T) (n : g .M ≡ g′ .M) where
   edge-any : {m : Reads} {s x t : ℕ} → Edge g m s x t → Edge g′ m s x t
   edge-any (by-shift h e) = by-shift (rw t at h) e
@@ -82,6 +84,7 @@ module _ {g g′ : Grammar} (t : g .T ≡ g′ .T) (n : g .M ≡ g′ .M) where
   path-any here = here
   path-any (along e w) = along (edge-any e) (path-any w)
 
+-- what a row reduces by needs the terminals and the actions alone
 pub reduces-any : {g g′ : Grammar} {v v′ : Reads} → g .T ≡ g′ .T → ((s a : ℕ) → v .act s a ≡ v′ .act s a) → {s q : ℕ} → Reduces g v s q → Reduces g′ v′ s q
 reduces-any t d {s} (by-rule a h e) = by-rule a (rw t at h) (sym (d s a) ∙ e)
 reduces-any t d {s} (by-accept a h e) = by-accept a (rw t at h) (sym (d s a) ∙ e)
@@ -108,10 +111,11 @@ pub record Tabled (z : Sizes) (states : ℕ) (table : List ℤ) : Type 0 where
   pub count : Within 2 1024 states
   pub entries : TableOk z states table
 
--- some path leads to s, and an edge, of the unsigned table
+-- some path of the unsigned table leads to s
 abbrev pub Reached : Sizes → List ℤ → ℕ → Type 0
 Reached z table s = Reach (bare z) (unsignedReads z table) s
 
+-- an edge of the unsigned table
 abbrev pub Leads : Sizes → List ℤ → ℕ → ℕ → ℕ → Type 0
 Leads z table s x t = Edge (bare z) (unsignedReads z table) s x t
 

@@ -50,6 +50,7 @@ pub record Good (z : Sizes) (states : ℕ) (left lens rights : List ℕ) (table 
   pub rules : GrammarOk (grammar z left lens rights)
   pub within : RulesIn (grammar z left lens rights) (filledRows z table srule)
 
+-- what the condition on the state before implies, may stand for it
 tail-map : {F E : ℕ → Type 0} → ((t : ℕ) → F t → E t) → {ys ss xs : List ℕ} {s : ℕ} → Tail F ys s ss xs → Tail E ys s ss xs
 tail-map f t = record { rest = t .rest; spelt = t .spelt; before = t .before; earlier = t .earlier; left-there = t .left-there; holds = f (t .before) (t .holds) }
 
@@ -60,8 +61,8 @@ module _ (z : Sizes) (left lens rights : List ℕ) (table : List ℤ) where
   abbrev u : Reads
   u = unsignedReads z table
 
-  -- rule i + 1
-  pub sides-right : (i : ℕ) → g .right (suc i) ≡ rightAt lens rights i
+  -- the sides of rule i + 1
+  sides-right : (i : ℕ) → g .right (suc i) ≡ rightAt lens rights i
   unfolding grammar
   sides-right i = ap (λ (n : ℕ). rightAt lens rights n) (let e : suc i - 1 ≡ i = omega arith in e)
 
@@ -70,6 +71,7 @@ module _ (z : Sizes) (left lens rights : List ℕ) (table : List ℤ) where
   sides-left i = ap (λ (n : ℕ). getD left n 0) (let e : suc i - 1 ≡ i = omega arith in e)
 
   module _ (i : ℕ) where
+    -- the test of the state before rule i + 1 is the condition on it
     before-precedes : (t : ℕ) → Before z table (eqb i 0) (getD left i 0) t → Precedes g u (suc i) t
     unfolding standsBefore
     before-precedes t h = by (eqb i 0) refl h

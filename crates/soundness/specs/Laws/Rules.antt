@@ -49,12 +49,12 @@ module _ (z : Sizes) (table : List ℤ) (srule : List ℕ) (s : ℕ) where
       by Accept e d = by-accept a h (ap actOf e)
 
   -- a column of the row reduces by q
-  record Column (q : ℕ) : Type 0 where
+  record InColumn (q : ℕ) : Type 0 where
     pub at : ℕ
     pub below : at < z .terminals
     pub rule : ruleAt z table srule s at ≡ q
 
-  reduces-rule : {q : ℕ} → Reduces (bare z) (filledRows z table srule) s q → Column q
+  reduces-rule : {q : ℕ} → Reduces (bare z) (filledRows z table srule) s q → InColumn q
   unfolding ruleAt grammar plainReads
   reduces-rule {q} (by-rule a h e) = record { at = a; below = h; rule = by (filledActionAt z table srule s a) e }
     where
@@ -109,7 +109,7 @@ module _ {z : Sizes} {table : List ℤ} {srule : List ℕ} {s : ℕ} where
   -- a rule of the row is marked
   pub ruled-in : {rules : List Bool} → Ruled z table srule s (z .terminals) rules → {q : ℕ} → q ≤ 1024 → Reduces (bare z) (filledRows z table srule) s q → In rules q
   ruled-in {rules} m {q} l r =
-      let c : Column z table srule s q = reduces-rule z table srule s r in
+      let c : InColumn z table srule s q = reduces-rule z table srule s r in
       let k : ruleAt z table srule s (c .at) ≤ 1024 = rw (c .rule) l in
       rw (c .rule) at (m .to (c .at) (c .below) k)
 

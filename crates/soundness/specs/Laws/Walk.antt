@@ -21,13 +21,14 @@ use Rattle.soundness.specs.Laws.Column.{closed-all}
 use Rattle.soundness.specs.Laws.Edges.{Tabled, Reached, Leads, symbols-some, leads-below, leads-in}
 use Rattle.soundness.specs.Laws.Ways.{Ways, Hit, hit-one, hit-several, Grows, grows-none, grows-more, hit-grows, joinedAt, Step, step}
 
+-- M is no way that stands for none
 module _ {z : Sizes} {states : ℕ} {table : List ℤ} (k : Tabled z states table) where
   pub some-symbols : z .symbols ≢ 0
   some-symbols e = omega (arith, symbols-some k)
 
 -- ---- one row
 
--- of row s the edges on the symbols below x are told
+-- the ways after the edges of row s on the symbols below x, which they tell
 pub record Row (z : Sizes) (states : ℕ) (table : List ℤ) (s x : ℕ) (ways ways′ : List ℕ) : Type 0 where
   pub kept : Ways z states table ways′
   pub grows : Grows z ways ways′
@@ -76,6 +77,7 @@ unset [] = 0
 unset (true ∷ l) = unset l
 unset (false ∷ l) = suc (unset l)
 
+-- setting one more leaves fewer
 pub unset-less : (l : List Bool) (i : ℕ) → i < length l → getD l i false ≡ false → unset (set l i true) < unset l
 unfolding unset
 unset-less [] i h e = absurd (omega arith)

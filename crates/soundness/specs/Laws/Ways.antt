@@ -25,6 +25,7 @@ joinedAt z table s x ways =
     cond (eqb (targetAt z table s x) 0) ways
     (set ways (targetAt z table s x) (joinedWay (getD ways (targetAt z table s x) 0) x (z .symbols)))
 
+-- x where the old way was none or x, else M
 data Joined (v x several : ℕ) : ℕ → Type 0 where
   on-one : (v ≢ 0 → v ≡ x) → Joined v x several x
   on-several : v ≢ 0 → v ≢ x → Joined v x several several
@@ -46,7 +47,7 @@ pub record Other (z : Sizes) (table : List ℤ) (t y : ℕ) : Type 0 where
   pub edge : Leads z table from on t
   pub differs : on ≢ y
 
--- a way that is not 0 is into a state with a path; a symbol other than it does not spell every path
+-- a way that is not 0 is into a state with a path; where y is not the way, the path of no edges or an edge on another symbol leads there
 pub record Ways (z : Sizes) (states : ℕ) (table : List ℤ) (ways : List ℕ) : Type 0 where
   pub size : length ways ≡ 1024
   pub start : getD ways 0 0 ≡ z .symbols
@@ -88,6 +89,7 @@ pub record Step (z : Sizes) (states : ℕ) (table : List ℤ) (s x : ℕ) (ways 
 
 module _ {z : Sizes} {states : ℕ} {table : List ℤ} (k : Tabled z states table) {ways : List ℕ} (w : Ways z states table ways) {s x : ℕ} where
   module _ (h : s < states) (l : x < z .symbols) (n : targetAt z table s x ≢ 0) where
+    -- where the edge leads, the way into that state before it, and with it
     abbrev to : ℕ
     to = targetAt z table s x
 

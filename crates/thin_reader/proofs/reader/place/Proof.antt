@@ -29,11 +29,11 @@ use denote.Triple.Table.{entered}
 use denote.Triple.Walked.{says, Stays, stay-none, walkOf, goes-none, Walks, ends-at, walked, walk-meets}
 use denote.Exit.{yes}
 use Rattle.sheets.specs.declared.SheetReader.{SheetReader}
-use Rattle.sheet_lines.proofs.reader.Held.{Row, Held, laws, mach}
-use Rattle.sheet_lines.proofs.reader.place.Key.{name as #place}
-use Rattle.sheet_lines.proofs.reader.place as place
-use Rattle.sheet_lines.proofs.reader.place.Statement as stated
-use Rattle.sheet_lines.proofs.reader.place.Code as code
+use Rattle.thin_reader.proofs.reader.Held.{Row, Held, laws, mach}
+use Rattle.thin_reader.proofs.reader.place.Key.{name as #place}
+use Rattle.thin_reader.proofs.reader.place as place
+use Rattle.thin_reader.proofs.reader.place.Statement as stated
+use Rattle.thin_reader.proofs.reader.place.Code as code
 
 abbrev stayed : Stays (place.ended .signature .params) (place.ended .kept)
 stayed = (stay-none Row yes, tt)

@@ -31,11 +31,11 @@ use denote.Triple.Table.{entered}
 use denote.Triple.Walked.{says, Stays, stay-none, walkOf, goes-none, Walks, ends-at, walked, walk-meets}
 use denote.Exit.{yes}
 use Rattle.sheets.specs.declared.SheetReader.{SheetReader}
-use Rattle.sheet_lines.proofs.reader.Held.{Row, Held, laws, parts, mach, spelt, Own, twice}
-use Rattle.sheet_lines.proofs.reader.moved.Key.{name as #moved}
-use Rattle.sheet_lines.proofs.reader.moved as moved
-use Rattle.sheet_lines.proofs.reader.moved.Statement as stated
-use Rattle.sheet_lines.proofs.reader.moved.Code as code
+use Rattle.thin_reader.proofs.reader.Held.{Row, Held, laws, parts, mach, spelt, Own, twice}
+use Rattle.thin_reader.proofs.reader.moved.Key.{name as #moved}
+use Rattle.thin_reader.proofs.reader.moved as moved
+use Rattle.thin_reader.proofs.reader.moved.Statement as stated
+use Rattle.thin_reader.proofs.reader.moved.Code as code
 
 abbrev stayed : Stays (moved.ended .signature .params) (moved.ended .kept)
 stayed = (stay-none Row yes, (stay-none (λ _. usize) yes, tt))

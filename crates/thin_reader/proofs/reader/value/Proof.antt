@@ -43,19 +43,19 @@ use Rattle.sheets.specs.declared.Key.{Key}
 use Rattle.sheets.specs.declared.Value.{Value}
 use Rattle.sheets.specs.Lines.{entryAt}
 use Rattle.sheets.specs.Walk.{keyOf}
-use Rattle.sheet_lines.proofs.reader.Held.{Row, Held, laws, parts, mach, spelt, Own, twice}
+use Rattle.thin_reader.proofs.reader.Held.{Row, Held, laws, parts, mach, spelt, Own, twice}
 use Rattle.sheets.proofs.Key as K
 use Rattle.sheets.proofs.Key.Laws as K′
 use Rattle.sheets.proofs.Value as S
 use Rattle.sheets.proofs.Value.Laws as S′
 use Rattle.sheet_lines.proofs.entry.keyed_at as keyed
 use Rattle.sheet_lines.proofs.entry.keyed_at.Symbol as keyed-def
 use Rattle.sheet_lines.proofs.entry.keyed_at.Symbol.{name as #keyed-at}
 use Rattle.sheet_lines.proofs.entry.keyed_at.Met as keyed-thm
-use Rattle.sheet_lines.proofs.reader.value.Key.{name as #value}
-use Rattle.sheet_lines.proofs.reader.value as value
-use Rattle.sheet_lines.proofs.reader.value.Statement as stated
-use Rattle.sheet_lines.proofs.reader.value.Code as code
+use Rattle.thin_reader.proofs.reader.value.Key.{name as #value}
+use Rattle.thin_reader.proofs.reader.value as value
+use Rattle.thin_reader.proofs.reader.value.Statement as stated
+use Rattle.thin_reader.proofs.reader.value.Code as code
 
 abbrev stayed : Stays (value.ended .signature .params) (value.ended .kept)
 stayed = (stay-none Row yes, (stay-none (λ _. K.the-row) yes, tt))

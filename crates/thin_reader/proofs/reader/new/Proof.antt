@@ -34,11 +34,11 @@ use denote.Triple.Table.{entered}
 use denote.Triple.Walked.{says, Stays, stay-none-slice, walkOf, goes-none-slice, Walks, ends-at, walked, walk-meets}
 use denote.Exit.{yes}
 use Rattle.sheets.specs.declared.SheetReader.{SheetReader}
-use Rattle.sheet_lines.proofs.reader.Held.{Held, laws, mach}
-use Rattle.sheet_lines.proofs.reader.new.Key.{name as #new}
-use Rattle.sheet_lines.proofs.reader.new as new
-use Rattle.sheet_lines.proofs.reader.new.Statement as stated
-use Rattle.sheet_lines.proofs.reader.new.Code as code
+use Rattle.thin_reader.proofs.reader.Held.{Held, laws, mach}
+use Rattle.thin_reader.proofs.reader.new.Key.{name as #new}
+use Rattle.thin_reader.proofs.reader.new as new
+use Rattle.thin_reader.proofs.reader.new.Statement as stated
+use Rattle.thin_reader.proofs.reader.new.Code as code
 
 abbrev stayed : Stays (new.ended .signature .params) (new.ended .kept)
 stayed = (stay-none-slice (0 ∷ []) tt (plain (λ _. u8)) yes, tt)

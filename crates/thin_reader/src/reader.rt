@@ -2,7 +2,7 @@
 ghost use mathlib.Core.Path.{_≡_};
 ghost use Rattle.sheets.specs.Lines.{entryAt};
 ghost use Rattle.sheets.specs.Walk.{keyOf};
-use crate::entry::keyed_at;
+use sheet_lines::entry::keyed_at;
 use sheets::Key;
 use sheets::SheetReader;
 use sheets::Value;
