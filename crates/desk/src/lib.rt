@@ -1,5 +1,6 @@
 // What a curator's tools call from Rust: the operations on numbers and slices.
 mod judge;
+mod notation;
 mod pack;
 mod plain;
 mod read;
