@@ -1,5 +1,7 @@
 // Answers as Rust gets them: a number and its values.
+pub mod checked;
 pub mod judged;
+pub mod packed;
 pub mod parsed;
 pub mod words;
 

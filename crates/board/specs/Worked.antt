@@ -48,8 +48,8 @@ abbrev pub emptied : ℕ → Bench
 emptied W = bench (replicate W (pos 0)) (replicate W (pos 0)) (replicate W 0) (replicate 7 0)
 
 -- the cells of the board's output, their marks, and the place of each state
-abbrev pub worked-cells : Bench
-worked-cells = bench (smallPacked .bases) (smallPacked .checks) (smallPacked .marks) (smallPacked .places)
+abbrev pub workedCells : Bench
+workedCells = bench (smallPacked .bases) (smallPacked .checks) (smallPacked .marks) (smallPacked .places)
 
 -- ---- the table
 
@@ -88,7 +88,7 @@ cases =
     parse "P7" small (b ∷ a ∷ a ∷ []) (room 1000 8 4) (OUTPUT 3) 7 (5 ∷ 3 ∷ 4 ∷ 2 ∷ []) ∷
     parse "P8" small (3 ∷ []) ample (TOKEN 0) 0 [] ∷
     pack "P9a" 20 NOROOM (emptied 20) ∷
-    pack "P9b" 21 (OK (21 ∷ [])) worked-cells ∷
+    pack "P9b" 21 (OK (21 ∷ [])) workedCells ∷
     check "P10" (signing 4 4) (UNSOUND 4 4) ∷
     check "P11a" (signing 1 2) (OK []) ∷
     check "P11b" (signing 0 4) (UNSOUND 0 4) ∷

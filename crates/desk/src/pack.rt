@@ -1,26 +1,11 @@
 // Packing, exported.
 ghost use mathlib.Core.Path.{_≡_};
-ghost use Rattle.packing.specs.Packing.{saidOf, packed};
+ghost use Rattle.packing.specs.Packing.{packed};
 ghost use Rattle.packing.specs.Written.{bench};
-ghost use Rattle.answers.specs.Answer.{answerOf};
 ghost use Rattle.desk.specs.Told.{told, toldOf};
 use answers::Answer;
-use answers::judged::judged;
-use answers::words::bare;
-use answers::words::with_one;
-use packing::Packing;
+use answers::packed::packed;
 use tables::Sizes;
-
-// What packing says, as numbers.
-fn packing_said(p: Packing) -> Answer
-    ensures { λ r. ⌜ r ≡ answerOf (saidOf p) ⌝ }
-{
-    match p {
-        Packing::Packed(n) => with_one(0, n),
-        Packing::Refused(j) => judged(j),
-        Packing::NoRoom => bare(5),
-    }
-}
 
 // Packs grammar, table and signing into the lent cells: OK with the count, or a refusal 1 to 5.
 #[no_mangle]
@@ -61,5 +46,5 @@ pub extern "C" fn slettrein_pack(
         marks,
         place,
     );
-    packing_said(p)
+    packed(p)
 }

@@ -1,7 +1,8 @@
 // P10 and P11: the table check of the small board with one state signed otherwise.
-use crate::answers::checked;
 use crate::boards::signing;
+use crate::said::said;
 use crate::say;
+use answers::checked::checked;
 use board::Board;
 use soundness::verdict::check;
 
@@ -24,7 +25,7 @@ fn line(name: &[u8], b: Board) {
         &sgoto,
     );
     say::text(name);
-    checked(c);
+    said(checked(c));
     say::text(b"\n");
 }
 

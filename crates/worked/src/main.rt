@@ -1,9 +1,9 @@
-// P1 to P12 of document 01, run through the product's functions: a line for each case, with what is said and what is left.
-mod answers;
+// P1 to P12 of document 01, run through the product's functions. A line for each case, for a parse one with the cells and one with the table: the name, the number of the answer, its values, and what is left.
 mod boards;
 mod checks;
 mod packs;
 mod parses;
+mod said;
 mod say;
 
 fn main() {

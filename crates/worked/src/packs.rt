@@ -1,6 +1,7 @@
 // P9: the small board packed.
-use crate::answers::packed;
+use crate::said::said;
 use crate::say;
+use answers::packed::packed;
 use board::Board;
 use packing::Packing;
 use packing::pack::pack;
@@ -40,7 +41,7 @@ fn line(name: &[u8], base: &mut [i32], check: &mut [i32], marks: &mut [u32]) {
     let mut place = [7u32; 7];
     let p = pack_board(board::small(), base, check, marks, &mut place);
     say::text(name);
-    packed(p);
+    said(packed(p));
     say::text(b" base");
     say::cells(base);
     say::text(b" check");

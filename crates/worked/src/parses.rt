@@ -1,10 +1,11 @@
 // P1 to P8 and P12: tokens parsed with the packed cells, then with the table.
 ghost use Prim.Native.Nat.{_≤_};
-use crate::answers::parsed;
 use crate::boards::blanked;
 use crate::boards::unsigned;
 use crate::packs::pack_board;
+use crate::said;
 use crate::say;
+use answers::parsed::parsed;
 use board::Board;
 use machine::Parsed;
 use machine::plain::plain_parse;
@@ -20,7 +21,7 @@ enum Over {
 fn line(name: &[u8], machine: &[u8], p: Parsed, list: &[u32]) {
     say::text(name);
     say::text(machine);
-    parsed(p);
+    said::parsed(parsed(p));
     say::text(b" list");
     say::list(list);
     say::text(b"\n");

@@ -6,7 +6,7 @@ use Rattle.tables.specs.Size.{numbersFit, statesFit, rightsFit, grammarFits, ta
 use Rattle.tables.specs.Grammar.{rightAt, grammar, inner, onRight, goodSides, goodRule, lowestRule}
 use Rattle.tables.specs.Entry.{entryAt, goodSigned, goodEntry, lowestEntry, actionAt, gotoAt}
 use Rattle.tables.specs.Signing.{goodSignature, goodTarget, lowestState, lowestTarget}
-use Rattle.tables.specs.Filled.{signedAction, signedGoto, filledActionAt, filledGotoAt}
+use Rattle.tables.specs.Filled.{signedAction, filledActionAt, filledGotoAt}
 use Rattle.tables.specs.Judgement.{signJudgement, grammarJudgement, judgement}
 use Rattle.cells.specs.Size.{cellsFit}
 use Rattle.cells.specs.Read.{cellsOf, found, isState, stateRead, ruleRead, readAt, readCell}
@@ -34,7 +34,7 @@ unfolding all sum among orAt lowest
     rightAt grammar inner onRight goodSides goodRule lowestRule
     entryAt goodSigned goodEntry lowestEntry actionAt gotoAt
     goodSignature goodTarget lowestState lowestTarget
-    signedAction signedGoto filledActionAt filledGotoAt
+    signedAction filledActionAt filledGotoAt
     signJudgement grammarJudgement judgement
     cellsFit cellsOf found isState stateRead ruleRead readAt readCell
     jobOf row sameRow rep plan tryB rowB houseB homeB stateB blankB placementB bound wiped arraysFit countOf packed

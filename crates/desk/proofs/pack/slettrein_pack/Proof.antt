@@ -7,8 +7,8 @@ use Rattle.desk.proofs.pack.slettrein_pack.Tie as tie
 pack-requires : tie.Need-pack-requires
 pack-requires c κs = search needs
 
-packing-said-requires : tie.Need-packing-said-requires
-packing-said-requires c κs = search needs
+packed-requires : tie.Need-packed-requires
+packed-requires c κs = search needs
 
 same-length : tie.Need-same-length
 same-length c = search needs
@@ -23,14 +23,14 @@ same-length-4 : tie.Need-same-length-4
 same-length-4 c = search needs
 
 returns : tie.Need-returns
-returns c = rw (c .packing-said .ensures) (ap toldOf (c .before .before .before .before .before .before .before .pack .ensures))
+returns c = rw (c .packed .ensures) (ap toldOf (c .before .before .before .before .before .before .before .pack .ensures))
 
 pub slettrein-pack-spec : {M : Type 1} → statement M
 slettrein-pack-spec =
     tie.close
     (tie.spec
     pack-requires
-    packing-said-requires
+    packed-requires
     same-length
     same-length-2
     same-length-3

@@ -7,11 +7,11 @@ use Rattle.host.proofs.check.slettrein_check.Tie as tie
 check-requires : tie.Need-check-requires
 check-requires c κs = search needs
 
-checked-said-requires : tie.Need-checked-said-requires
-checked-said-requires c κs = search needs
+checked-requires : tie.Need-checked-requires
+checked-requires c κs = search needs
 
 returns : tie.Need-returns
-returns c = c .checked-said .ensures ∙ ap answerOf (c .before .check .ensures)
+returns c = c .checked .ensures ∙ ap answerOf (c .before .check .ensures)
 
 pub slettrein-check-spec : {M : Type 1} → statement M
-slettrein-check-spec = tie.close (tie.spec check-requires checked-said-requires returns)
+slettrein-check-spec = tie.close (tie.spec check-requires checked-requires returns)

@@ -1,6 +1,6 @@
 use borrow.Author.Needs.{needs}
-use Rattle.desk.proofs.pack.packing_said.Statement.{statement}
-use Rattle.desk.proofs.pack.packing_said.Tie as tie
+use Rattle.answers.proofs.packed.packed.Statement.{statement}
+use Rattle.answers.proofs.packed.packed.Tie as tie
 
 enum-known-p : tie.Need-enum-known-p
 enum-known-p c = search needs
@@ -29,8 +29,8 @@ returns-2 c = rw (c .before .before .p2 .given .1) (c .judged .ensures)
 returns-3 : tie.Need-returns-3
 returns-3 c = rw (c .before .enum-told .given .1) (c .bare .ensures)
 
-pub packing-said-spec : {M : Type 1} → statement M
-packing-said-spec =
+pub packed-spec : {M : Type 1} → statement M
+packed-spec =
     tie.close
     (tie.spec
     enum-known-p

@@ -1,6 +1,6 @@
 use borrow.Author.Needs.{needs}
-use Rattle.host.proofs.check.checked_said.Statement.{statement}
-use Rattle.host.proofs.check.checked_said.Tie as tie
+use Rattle.answers.proofs.checked.checked.Statement.{statement}
+use Rattle.answers.proofs.checked.checked.Tie as tie
 
 enum-known-c : tie.Need-enum-known-c
 enum-known-c c = search needs
@@ -26,8 +26,8 @@ returns c = rw (c .before .before .c .given .1) (c .judged .ensures)
 returns-2 : tie.Need-returns-2
 returns-2 c = rw (c .before .before .c2 .given .1) (c .with-two .ensures)
 
-pub checked-said-spec : {M : Type 1} → statement M
-checked-said-spec =
+pub checked-spec : {M : Type 1} → statement M
+checked-spec =
     tie.close
     (tie.spec
     enum-known-c
