@@ -1,2 +1,4 @@
 pub mod Answer
 pub mod Ended
+pub mod Told
+pub mod Sheet

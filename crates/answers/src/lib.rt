@@ -3,6 +3,7 @@ pub mod checked;
 pub mod judged;
 pub mod packed;
 pub mod parsed;
+pub mod sheet;
 pub mod words;
 
 // The number of an answer, how many values come with it, and the values; 0 where there is none.

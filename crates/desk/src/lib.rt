@@ -4,3 +4,5 @@ mod notation;
 mod pack;
 mod plain;
 mod read;
+mod sheet_read;
+mod sheet_write;

@@ -1,8 +1,8 @@
 // Packing, exported.
 ghost use mathlib.Core.Path.{_≡_};
-ghost use Rattle.packing.specs.Packing.{packed};
+ghost use Rattle.packing.specs.Packing.{packed as packingOf};
 ghost use Rattle.packing.specs.Written.{bench};
-ghost use Rattle.desk.specs.Told.{told, toldOf};
+ghost use Rattle.answers.specs.Told.{told, toldOf};
 use answers::Answer;
 use answers::packed::packed;
 use tables::Sizes;
@@ -25,7 +25,7 @@ pub extern "C" fn slettrein_pack(
     marks: &mut [u32],
     place: &mut [u32],
 ) -> Answer
-    ensures { λ r. ⌜ told r (bench (now (base .exit)) (now (check .exit)) (now (marks .exit)) (now (place .exit))) ≡ toldOf (packed (record { terminals = terminals; symbols = symbols; rules = rules }) states (now (left .entry)) (now (lens .entry)) (now (rights .entry)) (now (table .entry)) (now (srule .entry)) (now (sgoto .entry)) (bench (now (base .entry)) (now (check .entry)) (now (marks .entry)) (now (place .entry)))) ⌝ }
+    ensures { λ r. ⌜ told r (bench (now (base .exit)) (now (check .exit)) (now (marks .exit)) (now (place .exit))) ≡ toldOf (packingOf (record { terminals = terminals; symbols = symbols; rules = rules }) states (now (left .entry)) (now (lens .entry)) (now (rights .entry)) (now (table .entry)) (now (srule .entry)) (now (sgoto .entry)) (bench (now (base .entry)) (now (check .entry)) (now (marks .entry)) (now (place .entry)))) ⌝ }
 {
     let z = Sizes {
         terminals: terminals,

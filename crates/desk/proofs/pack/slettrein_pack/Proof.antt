@@ -1,4 +1,4 @@
-use Rattle.desk.specs.Told.{toldOf}
+use Rattle.answers.specs.Told.{toldOf}
 use mathlib.Core.Path.{ap}
 use borrow.Author.Needs.{needs}
 use Rattle.desk.proofs.pack.slettrein_pack.Statement.{statement}

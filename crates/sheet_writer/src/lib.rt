@@ -1,2 +1,0 @@
-// The writer of the signing sheet.
-pub mod write;
