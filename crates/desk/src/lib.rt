@@ -2,6 +2,7 @@
 mod judge;
 mod notation;
 mod pack;
+mod packsheet;
 mod plain;
 mod read;
 mod sheet_read;

@@ -19,7 +19,7 @@ abbrev sgoto : List ℕ
 sgoto = 0 ∷ 1 ∷ 5 ∷ []
 
 -- its sheet, line by line
-abbrev sheet : List ℕ
+abbrev pub sheet : List ℕ
 sheet =
     -- sheet=1
     115 ∷ 104 ∷ 101 ∷ 101 ∷ 116 ∷ 61 ∷ 49 ∷ 10 ∷

@@ -1,133 +1,10 @@
-//! The exported functions as the archive has them: the only place with unsafe code.
+//! Calls of the exported functions: the only place with unsafe code.
 
-/// An answer's number, how many values come with it, and the values; 0 where there is none.
-#[repr(C)]
-pub struct Words {
-    pub number: u32,
-    pub count: u32,
-    pub first: usize,
-    pub second: usize,
-}
+mod exported;
 
-/// The same, with the count of moves.
-#[repr(C)]
-pub struct ParseWords {
-    pub number: u32,
-    pub count: u32,
-    pub first: usize,
-    pub second: usize,
-    pub moves: u32,
-}
+pub use exported::{ParseWords, Words};
 
-// A slice passes as a pointer and then a length, each an argument of its own.
-extern "C" {
-    fn slettrein_judge(
-        terminals: u32,
-        symbols: u32,
-        rules: u32,
-        states: u32,
-        left: *const u32,
-        left_len: usize,
-        lens: *const u32,
-        lens_len: usize,
-        rights: *const u32,
-        rights_len: usize,
-        table: *const i32,
-        table_len: usize,
-        srule: *const u32,
-        srule_len: usize,
-        sgoto: *const u32,
-        sgoto_len: usize,
-    ) -> Words;
-
-    fn slettrein_pack(
-        terminals: u32,
-        symbols: u32,
-        rules: u32,
-        states: u32,
-        left: *const u32,
-        left_len: usize,
-        lens: *const u32,
-        lens_len: usize,
-        rights: *const u32,
-        rights_len: usize,
-        table: *const i32,
-        table_len: usize,
-        srule: *const u32,
-        srule_len: usize,
-        sgoto: *const u32,
-        sgoto_len: usize,
-        base: *mut i32,
-        base_len: usize,
-        check: *mut i32,
-        check_len: usize,
-        marks: *mut u32,
-        marks_len: usize,
-        place: *mut u32,
-        place_len: usize,
-    ) -> Words;
-
-    fn slettrein_plain(
-        terminals: u32,
-        symbols: u32,
-        rules: u32,
-        states: u32,
-        left: *const u32,
-        left_len: usize,
-        lens: *const u32,
-        lens_len: usize,
-        rights: *const u32,
-        rights_len: usize,
-        table: *const i32,
-        table_len: usize,
-        srule: *const u32,
-        srule_len: usize,
-        sgoto: *const u32,
-        sgoto_len: usize,
-        tokens: *const u32,
-        tokens_len: usize,
-        limit: u32,
-        stack: *mut u32,
-        stack_len: usize,
-        list: *mut u32,
-        list_len: usize,
-    ) -> ParseWords;
-
-    fn slettrein_parse(
-        terminals: u32,
-        symbols: u32,
-        rules: u32,
-        left: *const u32,
-        left_len: usize,
-        lens: *const u32,
-        lens_len: usize,
-        rights: *const u32,
-        rights_len: usize,
-        base: *const i32,
-        base_len: usize,
-        check: *const i32,
-        check_len: usize,
-        tokens: *const u32,
-        tokens_len: usize,
-        limit: u32,
-        stack: *mut u32,
-        stack_len: usize,
-        list: *mut u32,
-        list_len: usize,
-    ) -> ParseWords;
-
-    fn slettrein_read(
-        terminals: u32,
-        symbols: u32,
-        rules: u32,
-        base: *const i32,
-        base_len: usize,
-        check: *const i32,
-        check_len: usize,
-        x: usize,
-        a: u32,
-    ) -> Words;
-}
+use exported::*;
 
 /// The judgement of grammar, table and signing.
 pub fn judge(
@@ -139,6 +16,36 @@ pub fn judge(
     // The function has no precondition: it takes any numbers, and reads each slice within its length.
     unsafe {
         slettrein_judge(
+            terminals,
+            symbols,
+            rules,
+            states,
+            left.as_ptr(),
+            left.len(),
+            lens.as_ptr(),
+            lens.len(),
+            rights.as_ptr(),
+            rights.len(),
+            table.as_ptr(),
+            table.len(),
+            srule.as_ptr(),
+            srule.len(),
+            sgoto.as_ptr(),
+            sgoto.len(),
+        )
+    }
+}
+
+/// The table check.
+pub fn check(
+    [terminals, symbols, rules, states]: [u32; 4],
+    [left, lens, rights]: [&[u32]; 3],
+    table: &[i32],
+    [srule, sgoto]: [&[u32]; 2],
+) -> Words {
+    // As above.
+    unsafe {
+        slettrein_check(
             terminals,
             symbols,
             rules,
@@ -294,6 +201,75 @@ pub fn parse(
             stack.len(),
             list.as_mut_ptr(),
             list.len(),
+        )
+    }
+}
+
+/// Reading a signing sheet into the lent signing.
+pub fn sheet_read(
+    [terminals, symbols, rules, states]: [u32; 4],
+    text: &[u8],
+    [srule, sgoto]: [&mut [u32]; 2],
+) -> Words {
+    // As above.
+    unsafe {
+        slettrein_sheet_read(
+            terminals,
+            symbols,
+            rules,
+            states,
+            text.as_ptr(),
+            text.len(),
+            srule.as_mut_ptr(),
+            srule.len(),
+            sgoto.as_mut_ptr(),
+            sgoto.len(),
+        )
+    }
+}
+
+/// Writing a signing sheet into the lent buffer.
+pub fn sheet_write(
+    [terminals, symbols, rules, states]: [u32; 4],
+    [srule, sgoto]: [&[u32]; 2],
+    buffer: &mut [u8],
+) -> Words {
+    // As above.
+    unsafe {
+        slettrein_sheet_write(
+            terminals,
+            symbols,
+            rules,
+            states,
+            srule.as_ptr(),
+            srule.len(),
+            sgoto.as_ptr(),
+            sgoto.len(),
+            buffer.as_mut_ptr(),
+            buffer.len(),
+        )
+    }
+}
+
+/// What packsheet prints for a text, as far as the lent buffer holds it, and how long that is.
+pub fn packsheet(text: &[u8], out: &mut [u8]) -> usize {
+    // As above.
+    unsafe { slettrein_packsheet(text.as_ptr(), text.len(), out.as_mut_ptr(), out.len()) }
+}
+
+/// The house notation's grammar and table, into the lent arrays.
+pub fn house([left, lens, rights]: [&mut [u32]; 3], table: &mut [i32]) -> Words {
+    // As above.
+    unsafe {
+        slettrein_house(
+            left.as_mut_ptr(),
+            left.len(),
+            lens.as_mut_ptr(),
+            lens.len(),
+            rights.as_mut_ptr(),
+            rights.len(),
+            table.as_mut_ptr(),
+            table.len(),
         )
     }
 }

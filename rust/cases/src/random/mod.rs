@@ -4,7 +4,6 @@ mod cells;
 mod dice;
 mod fault;
 mod grammar;
-mod lr;
 mod run;
 mod sheet;
 mod signing;

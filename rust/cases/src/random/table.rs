@@ -2,8 +2,8 @@
 
 use super::dice::Dice;
 use super::grammar::{grammar, sizes};
-use super::lr::lr_table;
 use crate::ask::{Given, Signing, Sizes};
+use crate::lr::lr_table;
 use crate::sheet::board;
 
 /// A random grammar with a table of good entries, unsigned.

@@ -9,14 +9,21 @@ type Item = (usize, usize);
 #[derive(Clone, PartialEq)]
 struct Sets {
     empty: Vec<bool>,
-    first: Vec<u64>,
-    follow: Vec<u64>,
+    first: Vec<u128>,
+    follow: Vec<u128>,
 }
 
-/// The table of a grammar of at most 64 terminals, or nothing if it has more than `most` states.
+/// As many terminals have a bit in a set.
+const MOST_TERMINALS: usize = u128::BITS as usize;
+
+/// The table of a good grammar, or nothing if it has more than 128 terminals or `most` states; L is not looked at.
+///
 /// A shift wins over a reduction and a lower rule over a higher one. Reductions stand under the
 /// terminals that can follow, or under all of them if so asked.
 pub fn lr_table(sizes: &Sizes, grammar: &Grammar, most: usize, all: bool) -> Option<Vec<i32>> {
+    if sizes.terminals > MOST_TERMINALS {
+        return None;
+    }
     let follow = sets(sizes, grammar).follow;
     let mut kernels: Vec<Vec<Item>> = vec![vec![(1, 0)]];
     let mut table = Vec::new();
@@ -32,7 +39,7 @@ pub fn lr_table(sizes: &Sizes, grammar: &Grammar, most: usize, all: bool) -> Opt
         }
         for &(rule, _) in items.iter().filter(|(r, k)| *k == grammar.right(*r).len()) {
             let under =
-                if all && rule > 1 { u64::MAX } else { follow[grammar.left[rule - 1] as usize] };
+                if all && rule > 1 { u128::MAX } else { follow[grammar.left[rule - 1] as usize] };
             reduce(&mut row[..sizes.terminals], rule, under);
         }
         table.extend(row);
@@ -45,7 +52,7 @@ pub fn lr_table(sizes: &Sizes, grammar: &Grammar, most: usize, all: bool) -> Opt
 }
 
 /// Writes a reduction in the blank entries of a row under the given terminals.
-fn reduce(row: &mut [i32], rule: usize, under: u64) {
+fn reduce(row: &mut [i32], rule: usize, under: u128) {
     for (a, entry) in row.iter_mut().enumerate() {
         if *entry == 0 && under >> a & 1 == 1 {
             *entry = -(rule as i32);
