@@ -1,6 +1,6 @@
 //! The product.
 
-use cases::{Answer, Array, Ask, Cells, Counts, Given, Grammar, Op, Run, Signing, Sizes};
+use cases::{Answer, Array, Ask, Cells, Counts, Given, Grammar, Run, Signing, Sizes};
 use slettrein::lent::{self, Said};
 
 use crate::Program;
@@ -8,22 +8,8 @@ use crate::Program;
 /// The product.
 pub struct Product;
 
-impl Product {
-    /// The operations that the product has.
-    pub const OPERATIONS: [Op; 8] = [
-        Op::Pack,
-        Op::Read,
-        Op::Parse,
-        Op::Plain,
-        Op::Check,
-        Op::SheetRead,
-        Op::SheetWrite,
-        Op::PackSheet,
-    ];
-}
-
 impl Program for Product {
-    /// The answer of the exported function for the operation, or none where there is no such function yet.
+    /// The answer of the exported function for the operation.
     fn answer(&self, ask: &Ask) -> Answer {
         match ask {
             Ask::Pack { given, cells, marks, place } => pack(given, cells, marks, place),

@@ -61,7 +61,7 @@ fn malformed_cases_end_with_the_line_and_the_reason() {
     malformed(&number, "", reason);
     let first = "case a\nop packsheet\ntext 1\n";
     let input = format!("{first}end\ncase b\nop packsheet\ncase c\n");
-    let answered = format!("{first}> code none\nend\n");
+    let answered = format!("{first}> text 114 101 102 117 115 101 100 61 49 53 10\nend\n");
     malformed(&input, &answered, "replay: line 7: a case inside a case\n");
 }
 

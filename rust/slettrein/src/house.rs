@@ -36,7 +36,7 @@ pub fn token(name: &str) -> Option<u32> {
 /// let names = "VARIANT NAME PITS EQUALS NUMBER SEEDS EQUALS NUMBER SOW EQUALS LEFT LAPS EQUALS RELAY";
 /// let mut sheet: Vec<u32> = names.split(' ').filter_map(house::token).collect();
 /// let stopped = cells.parse(&sheet).expect_err("the CAPTURE field is missing");
-/// assert_eq!((stopped.refusal.number(), stopped.made.moves), (8, 18));
+/// assert_eq!((stopped.refusal.number(), stopped.made.moves), (8, 17));
 /// sheet.extend("CAPTURE EQUALS NOTHING".split(' ').filter_map(house::token));
 /// assert!(cells.parse(&sheet).is_ok());
 /// # Ok::<(), slettrein::Refusal>(())
