@@ -1,10 +1,11 @@
 // Answers as Rust gets them: a number and its values.
+pub mod asked;
 pub mod checked;
 pub mod judged;
 pub mod packed;
 pub mod parsed;
 pub mod sheet;
-pub mod words;
+mod words;
 
 // The number of an answer, how many values come with it, and the values; 0 where there is none.
 #[repr(C)]

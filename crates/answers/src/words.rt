@@ -6,7 +6,7 @@ ghost use Rattle.answers.specs.Answer.{answerOf};
 use crate::Answer;
 
 // An answer with no value.
-pub fn bare(number: u32) -> Answer
+pub(crate) fn bare(number: u32) -> Answer
     ensures { λ r. ⌜ r ≡ answerOf (answer number []) ⌝ }
 {
     Answer {
@@ -18,7 +18,7 @@ pub fn bare(number: u32) -> Answer
 }
 
 // An answer with one value.
-pub fn with_one(number: u32, first: usize) -> Answer
+pub(crate) fn with_one(number: u32, first: usize) -> Answer
     ensures { λ r. ⌜ r ≡ answerOf (answer number (first ∷ [])) ⌝ }
 {
     Answer {
@@ -30,7 +30,7 @@ pub fn with_one(number: u32, first: usize) -> Answer
 }
 
 // An answer with two values.
-pub fn with_two(number: u32, first: usize, second: usize) -> Answer
+pub(crate) fn with_two(number: u32, first: usize, second: usize) -> Answer
     ensures { λ r. ⌜ r ≡ answerOf (answer number (first ∷ second ∷ [])) ⌝ }
 {
     Answer {

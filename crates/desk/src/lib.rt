@@ -1,9 +1,6 @@
-// What a curator's tools call from Rust: the operations on numbers and slices.
+// What a curator's tools call from Rust: judging, packing, reading, the plain machine, the house notation.
 mod judge;
 mod notation;
 mod pack;
-mod packsheet;
 mod plain;
 mod read;
-mod sheet_read;
-mod sheet_write;

@@ -1,7 +1,7 @@
 // The house variant notation: its grammar and its table, handed out as the lists that are proved sound.
 ghost use mathlib.Core.Path.{_≡_};
 ghost use Rattle.tables.specs.Judgement.{saidOf};
-ghost use Rattle.house.specs.House.{houseSizes, houseStates, houseLeft, houseLens, houseRights, houseTable};
+ghost use Rattle.house.specs.House.{houseLeft, houseLens, houseRights, houseTable};
 ghost use Rattle.house.specs.Handed.{Fit, handed, arraysFit, handedOut};
 
 mod arrays;
@@ -14,53 +14,6 @@ use crate::arrays::TABLE;
 use crate::copy::copy_i32;
 use crate::copy::copy_u32;
 use tables::Judged;
-use tables::Sizes;
-
-// How many terminals, symbols and rules the notation has.
-pub fn sizes() -> Sizes
-    ensures { λ r. ⌜ r ≡ houseSizes ⌝ }
-{
-    Sizes {
-        terminals: 18,
-        symbols: 28,
-        rules: 16,
-    }
-}
-
-// How many states its table has.
-pub fn states() -> u32
-    ensures { λ r. ⌜ r ≡ houseStates ⌝ }
-{
-    35
-}
-
-// The left side of each rule.
-pub fn left() -> [u32; 16]
-    ensures { λ r. ⌜ r ≡ houseLeft ⌝ }
-{
-    LEFT
-}
-
-// The length of each rule's right side.
-pub fn lens() -> [u32; 16]
-    ensures { λ r. ⌜ r ≡ houseLens ⌝ }
-{
-    LENS
-}
-
-// The right sides, one after the other.
-pub fn rights() -> [u32; 40]
-    ensures { λ r. ⌜ r ≡ houseRights ⌝ }
-{
-    RIGHTS
-}
-
-// The table, row by row.
-pub fn table() -> [i32; 980]
-    ensures { λ r. ⌜ r ≡ houseTable ⌝ }
-{
-    TABLE
-}
 
 // Each array is as long as what it is to hold.
 fn arrays_fit(left: &[u32], lens: &[u32], rights: &[u32], table: &[i32]) -> bool

@@ -3,7 +3,7 @@ use Prim.Native.Nat.{ℕ}
 use mathlib.Core.Bool.{cond}
 use mathlib.Core.List.{List}
 use lib.Dec.{leb, eqb}
-use lib.IntN.{ℤ, pos}
+use lib.IntN.{pos}
 use lib.ListN.{length, getD, replicate}
 use Rattle.sheets.specs.Outcome.{ReadOutcome, sheetRead}
 use Rattle.packing.specs.Bench.{Bench}

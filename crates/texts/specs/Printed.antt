@@ -1,14 +1,13 @@
 -- What packsheet prints: the cells up to a count, or the number of a refusal.
-use Prim.Native.Nat.{ℕ, zero, suc, _+_, _≤_}
+use Prim.Native.Nat.{ℕ, zero, suc, _+_}
 use mathlib.Core.List.{List, [], _∷_, _++_}
 use lib.IntN.{ℤ, pos}
-use lib.ListN.{length, getD}
+use lib.ListN.{getD}
 use Rattle.number.specs.Number.{signOf}
 use Rattle.number.specs.declared.Signed.{Signed}
 use Rattle.number.specs.declared.Signed.the-variants.{Plus, Minus}
 use Rattle.sheets.specs.Decimal.{decimal}
 use Rattle.sheets.specs.Sheet.{line, joined}
-use Rattle.sheets.specs.Emit.{Emitted}
 
 -- `cells`
 abbrev pub cellsKey : List ℕ
@@ -51,8 +50,3 @@ cellsText base check count = line cellsKey (decimal count) ++ joined (cellLines 
 -- a refusal's number
 unfoldable pub refusalText : ℕ → List ℕ
 refusalText number = line refusedKey (decimal number)
-
--- bytes were put, and they are few
-pub record Brief (most : ℕ) (before : List ℕ) (place : ℕ) (bytes : List ℕ) (to : ℕ) (after : List ℕ) : Type 0 where
-  pub put : Emitted before place bytes to after
-  pub few : length bytes ≤ most

@@ -2,14 +2,15 @@
 ghost use Prim.Native.Nat.{_≤_};
 ghost use Rattle.sheets.specs.Sheet.{joined};
 ghost use Rattle.sheets.specs.Emit.{Emitted};
-ghost use Rattle.texts.specs.Printed.{signed, cellLine, cellLines, cellsText, refusalText, Brief};
+ghost use Rattle.texts.specs.Printed.{signed, cellLine, cellLines, cellsText, refusalText};
+ghost use Rattle.texts.specs.Brief.{Brief};
 use crate::put::put_byte;
 use crate::put::put_line;
 use crate::put::put_number;
 use number::Signed;
 use number::at_i32;
 
-// Puts a number with its sign.
+// Puts a number with its sign, from a place after which no count wraps.
 fn put_signed(buffer: &mut [u8], at: usize, v: Signed) -> usize
     requires { ⌜ at ≤ 2000000000000 ⌝ }
     ensures { λ r. ⌜ Brief 11 (now (buffer .entry)) at (signed v) r (now (buffer .exit)) ⌝ }
@@ -23,7 +24,7 @@ fn put_signed(buffer: &mut [u8], at: usize, v: Signed) -> usize
     }
 }
 
-// Puts the line of cell i.
+// Puts the line of cell i, at most 35 bytes, from a place after which no count wraps.
 fn put_cell(buffer: &mut [u8], at: usize, i: u32, base: Signed, check: Signed) -> usize
     requires { ⌜ at ≤ 1000000000000 ⌝ }
     ensures { λ r. ⌜ Brief 35 (now (buffer .entry)) at (cellLine i base check) r (now (buffer .exit)) ⌝ }
@@ -36,7 +37,7 @@ fn put_cell(buffer: &mut [u8], at: usize, i: u32, base: Signed, check: Signed) -
     put_byte(buffer, end, b'\n')
 }
 
-// Puts a line for each cell up to the count.
+// Puts a line for each cell up to the count, after the line of the count.
 fn put_cells(buffer: &mut [u8], at: usize, base: &[i32], check: &[i32], count: u32) -> usize
     requires { ⌜ at ≤ 17 ⌝ }
     ensures { λ r. ⌜ Emitted (now (buffer .entry)) at (joined (cellLines (now (base .entry)) (now (check .entry)) 0 count)) r (now (buffer .exit)) ⌝ }

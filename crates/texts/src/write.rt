@@ -4,7 +4,6 @@ ghost use mathlib.Core.Bool.{true};
 ghost use Prim.Native.Nat.{_+_, _≤_};
 ghost use lib.ListN.{length};
 ghost use Rattle.tables.specs.Size.{signingFits};
-ghost use Rattle.sheets.specs.Decimal.{decimal};
 ghost use Rattle.sheets.specs.Sheet.{value, line, entryKey, header, entries, joined, sheetText};
 ghost use Rattle.sheets.specs.Outcome.{writeSaid, writeOutcome, putOr, sheetWrite};
 ghost use Rattle.sheets.specs.Emit.{Room, Emitted};

@@ -3,7 +3,7 @@ use mathlib.Core.Path.{_≡_, refl, sym, ap, _∙_}
 use mathlib.Core.Bool.{Bool, true, false, cond}
 use mathlib.Core.Option.{Option, none, some}
 use mathlib.Core.List.{List}
-use Prim.Native.Nat.{ℕ, zero, suc, _+_, _*_, _≤_}
+use Prim.Native.Nat.{ℕ, zero, suc, _≤_}
 use native.Mathlib.Omega.{arith}
 use lib.Dec.{eqb}
 use lib.IntN.{pos}
@@ -13,7 +13,7 @@ use Rattle.tables.specs.Said.{Said}
 use Rattle.tables.specs.Judgement.{judgement}
 use Rattle.cells.specs.Read.{Kind, action, goto, twice}
 use Rattle.cells.specs.Size.{cellsFit}
-use Rattle.packing.specs.Job.{Act, blank, shift, rule, Job, jobOf, eqAct}
+use Rattle.packing.specs.Job.{Act, blank, rule, Job, jobOf, eqAct}
 use Rattle.packing.specs.Rows.{sign, kindOf, inKind, row}
 use Rattle.packing.specs.Bench.{Bench, placementB}
 use Rattle.packing.specs.Packed.{bound}
@@ -26,7 +26,7 @@ use Rattle.answers.specs.declared.Answer.{Answer}
 use Rattle.answers.specs.Told.{Told, told, toldOf}
 use Rattle.printed.specs.Printed.{boardPacked, lent}
 use Rattle.printed.specs.Laws.Printed.{packed-number}
-use Rattle.printed.specs.Laws.Numbers.{size, Low, Bounds, LowIf, placement-low}
+use Rattle.printed.specs.Laws.Numbers.{size, Bounds, LowIf, placement-low}
 
 -- ---- the count
 
@@ -63,6 +63,7 @@ pub record Held (r : Result) : Type 0 where
   pub checks : (c : ℕ) → size (getD (r .arrays .checks) c (pos 0)) ≤ 2000
 
 module _ (srule sgoto : List ℕ) where
+  -- its table with this signing, as packing takes it
   abbrev pub job : Job
   job = jobOf twice (small .sizes) 7 (small .table) srule sgoto
 
@@ -97,6 +98,7 @@ module _ (srule sgoto : List ℕ) where
   unfolding arraysFit cellsFit
   lent-fits = refl
 
+  -- the judgement of the board with this signing
   abbrev pub judge : Said
   judge = judgement (small .sizes) 7 (small .left) (small .lens) (small .rights) (small .table) srule sgoto
 

@@ -59,6 +59,7 @@ pub record Bounds (J : Job) (fuel N : ℕ) : Type 0 where
   pub targets : (A : ℕ) → J .off A ≤ 2 * A
 
 module _ (J : Job) (W fuel N : ℕ) (b : Bounds J fuel N) where
+  -- the same, for this job
   abbrev LowB : Bench → Type 0
   LowB B = Low N W (J .rules) B
 

@@ -7,7 +7,8 @@ use lib.IntN.{ℤ}
 use Rattle.sheets.specs.Sheet.{joined}
 use Rattle.sheets.specs.Emit.{Emitted}
 use Rattle.sheets.specs.Laws.Emit.{Left, left-begin, left-on, left-end}
-use Rattle.texts.specs.Printed.{at, cellLine, cellLines, Brief}
+use Rattle.texts.specs.Printed.{at, cellLine, cellLines}
+use Rattle.texts.specs.Brief.{Brief}
 use Rattle.texts.specs.Laws.Short.{brief-place}
 
 module _ (base check : List ℤ) (count : ℕ) where

@@ -14,9 +14,9 @@ use Rattle.sheets.specs.Emit.{Room, Emitted}
 use Rattle.sheets.specs.Laws.Digits.{decimal-one, decimal-more}
 use Rattle.sheets.specs.Laws.Entries.{line-length}
 use Rattle.sheets.specs.Laws.Emit.{then}
-use Rattle.texts.specs.Printed.{Brief}
+use Rattle.texts.specs.Brief.{Brief}
 
--- a number below 10 to the power of k has at most k digits
+-- a number below 10 to the power of k + 1 has at most k + 1 digits
 pub decimal-short : (k n : ℕ) → n < 10 ^ suc k → length (decimal n) ≤ suc k
 decimal-short zero n h = rw (decimal-one n (omega arith)) (omega arith)
 decimal-short (suc k) n h = by (ltb n 10) refl (decimal-short k (n / 10))

@@ -1,6 +1,6 @@
 use borrow.Author.Needs.{needs}
-use Rattle.desk.proofs.read.asked_said.Statement.{statement}
-use Rattle.desk.proofs.read.asked_said.Tie as tie
+use Rattle.answers.proofs.asked.asked.Statement.{statement}
+use Rattle.answers.proofs.asked.asked.Tie as tie
 
 enum-told : tie.Need-enum-told
 enum-told c = search needs
@@ -59,8 +59,8 @@ returns-5 c = rw (c .before .enum-told2 .given .1) (c .with-one2 .ensures)
 returns-6 : tie.Need-returns-6
 returns-6 c = rw (c .before .enum-told3 .given .1) (c .with-one3 .ensures)
 
-pub asked-said-spec : {M : Type 1} → statement M
-asked-said-spec =
+pub asked-spec : {M : Type 1} → statement M
+asked-spec =
     tie.close
     (tie.spec
     enum-told

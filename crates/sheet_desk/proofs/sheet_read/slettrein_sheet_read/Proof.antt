@@ -1,8 +1,8 @@
 use mathlib.Core.Path.{ap}
 use Rattle.answers.specs.Sheet.{readOf}
 use borrow.Author.Needs.{needs}
-use Rattle.desk.proofs.sheet_read.slettrein_sheet_read.Statement.{statement}
-use Rattle.desk.proofs.sheet_read.slettrein_sheet_read.Tie as tie
+use Rattle.sheet_desk.proofs.sheet_read.slettrein_sheet_read.Statement.{statement}
+use Rattle.sheet_desk.proofs.sheet_read.slettrein_sheet_read.Tie as tie
 
 read-sheet-requires : tie.Need-read-sheet-requires
 read-sheet-requires c κs = search needs

@@ -1,8 +1,8 @@
 use mathlib.Core.Path.{ap}
 use Rattle.answers.specs.Sheet.{writtenOf}
 use borrow.Author.Needs.{needs}
-use Rattle.desk.proofs.sheet_write.slettrein_sheet_write.Statement.{statement}
-use Rattle.desk.proofs.sheet_write.slettrein_sheet_write.Tie as tie
+use Rattle.sheet_desk.proofs.sheet_write.slettrein_sheet_write.Statement.{statement}
+use Rattle.sheet_desk.proofs.sheet_write.slettrein_sheet_write.Tie as tie
 
 write-sheet-requires : tie.Need-write-sheet-requires
 write-sheet-requires c κs = search needs

@@ -1,6 +1,6 @@
 use borrow.Author.Needs.{needs}
-use Rattle.desk.proofs.read.shift_said.Statement.{statement}
-use Rattle.desk.proofs.read.shift_said.Tie as tie
+use Rattle.answers.proofs.asked.shift_said.Statement.{statement}
+use Rattle.answers.proofs.asked.shift_said.Tie as tie
 
 enum-known-w : tie.Need-enum-known-w
 enum-known-w c = search needs
