@@ -27,5 +27,5 @@ pub extern "C" fn slettrein_judge(
         symbols: symbols,
         rules: rules,
     };
-    judged(tables::judge::judge(z, states, left, lens, rights, table, srule, sgoto))
+    judged(judgement::judge::judge(z, states, left, lens, rights, table, srule, sgoto))
 }

@@ -222,7 +222,7 @@ pub fn plain_parse(
     ensures { λ r. ⌜ outcome (saidOf r) (movesOf r) (now (stack .exit)) (now (list .exit)) ≡ plainParse z states (now (left .entry)) (now (lens .entry)) (now (rights .entry)) (now (table .entry)) (now (srule .entry)) (now (sgoto .entry)) (now (tokens .entry)) limit (now (stack .entry)) (now (list .entry)) ⌝ }
 {
     if job_fits(tokens, limit) {
-        let j = tables::judge::judge(z, states, left, lens, rights, table, srule, sgoto);
+        let j = judgement::judge::judge(z, states, left, lens, rights, table, srule, sgoto);
         let Judged::Good = j else {
             return Parsed::Refused(j);
         };

@@ -16,9 +16,9 @@ use crate::Placed;
 use crate::place::place_all;
 use crate::place::wipe;
 use cells::size::cells_fit;
+use judgement::judge::judge;
 use tables::Judged;
 use tables::Sizes;
-use tables::judge::judge;
 
 // The highest taken cell plus 1.
 fn count(marks: &[u32]) -> usize

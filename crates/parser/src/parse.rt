@@ -9,6 +9,7 @@ ghost use Rattle.parser.specs.Reads.{cellReads};
 ghost use Rattle.parser.specs.Outcome.{packedFits, packedParse};
 use crate::moves::packed_move;
 use cells::size::cells_fit;
+use judgement::judge::judge_grammar;
 use machine::Answer;
 use machine::Moved;
 use machine::Parsed;
@@ -17,7 +18,6 @@ use machine::State;
 use machine::job::job_fits;
 use tables::Judged;
 use tables::Sizes;
-use tables::judge::judge_grammar;
 
 // A run from the state at cell 0, to its end or to the limit.
 fn run(

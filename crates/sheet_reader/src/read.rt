@@ -9,6 +9,7 @@ ghost use Rattle.sheets.specs.Sheet.{header as headerLines};
 ghost use Rattle.sheets.specs.Outcome.{readSaid, readOutcome, signedOr, toldBy, sheetRead};
 ghost use Rattle.sheets.specs.Lines.{linesOf};
 ghost use Rattle.sheets.specs.Walk.{exactFrom, filled, entriesFrom, endAt, scanned, scanOf};
+use judgement::judge::judge_signing;
 use sheet_lines::entry::entry_at;
 use sheet_lines::skip::skip_line;
 use sheets::Lines;
@@ -17,7 +18,6 @@ use sheets::Reading;
 use sheets::Value;
 use tables::Judged;
 use tables::Sizes;
-use tables::judge::judge_signing;
 use tables::size::signing_fits;
 
 // The header: the edition, then the caller's numbers.

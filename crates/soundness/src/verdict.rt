@@ -11,10 +11,10 @@ ghost use Rattle.soundness.specs.Laws.Answer.{Told};
 use crate::Checked;
 use crate::row::lowest_failing;
 use crate::ways::find_ways;
+use judgement::judge::judge;
 use tables::Judged;
 use tables::Lowest;
 use tables::Sizes;
-use tables::judge::judge;
 
 // The lowest rule, counted from 0, that fails at s; none where no path leads to s.
 fn lowest_at(

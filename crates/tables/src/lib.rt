@@ -1,8 +1,4 @@
-// Grammar, table and signing: what is refused under the numbers 1 to 4, and how an entry is read.
-pub mod entry;
-pub mod grammar;
-pub mod judge;
-pub mod signing;
+// Grammar, table and signing: what is refused under the numbers 1 to 4, SIZE tested, and how an entry is read.
 pub mod size;
 
 // The numbers of a grammar: T, M and G.

@@ -48,7 +48,7 @@ fn rights_fit(lens: &[u32], total: usize) -> bool
 }
 
 // The numbers of a grammar and the lengths of its arrays fit.
-pub(crate) fn grammar_fits(z: Sizes, left: &[u32], lens: &[u32], rights: &[u32]) -> bool
+pub fn grammar_fits(z: Sizes, left: &[u32], lens: &[u32], rights: &[u32]) -> bool
     ensures { λ r. ⌜ r ≡ grammarFits z (now (left .entry)) (now (lens .entry)) (now (rights .entry)) ⌝ }
 {
     numbers_fit(z)
@@ -74,7 +74,7 @@ pub fn signing_fits(z: Sizes, states: u32, srule: &[u32], sgoto: &[u32]) -> bool
 }
 
 // Grammar, table and signing fit.
-pub(crate) fn all_fit(
+pub fn all_fit(
     z: Sizes,
     states: u32,
     left: &[u32],

@@ -11,10 +11,10 @@ use crate::put::put_byte;
 use crate::put::put_bytes;
 use crate::put::put_line;
 use crate::put::put_number;
+use judgement::judge::judge_signing;
 use sheets::Writing;
 use tables::Judged;
 use tables::Sizes;
-use tables::judge::judge_signing;
 
 // Puts `none` for 0, else the number.
 fn put_value(buffer: &mut [u8], at: usize, v: u32) -> usize
