@@ -23,7 +23,7 @@ pub enum Kind {
 
 /// The kind of every cell.
 pub fn kinds(packed: &Packed) -> Vec<Kind> {
-    let cells = packed.cells;
+    let cells = &packed.cells;
     let mut kinds: Vec<Kind> = (0..cells.base().len()).map(|cell| entry(packed, cell)).collect();
     for (state, &cell) in cells.place().iter().enumerate() {
         let attached = match packed.signing.rule(state) {

@@ -1,16 +1,27 @@
 //! What is audited: a table, its signing, and the cells that they were packed into.
 
-use slettrein::{Cells, Signing, Table};
+use slettrein::{Cells, Refusal, Signing, Table};
 
-/// A table with its signing and its cells.
-#[derive(Clone, Copy, Debug)]
-pub struct Packed<'a> {
-    pub table: &'a Table,
-    pub signing: &'a Signing,
-    pub cells: &'a Cells,
+use crate::{signed, Asked};
+
+/// A table with its name, its signing and its cells.
+#[derive(Clone, Debug)]
+pub struct Packed {
+    pub name: String,
+    pub table: Table,
+    pub signing: Signing,
+    pub cells: Cells,
 }
 
-impl Packed<'_> {
+impl Packed {
+    /// What is asked for, judged and packed; or what it is refused with.
+    pub fn new(asked: &Asked) -> Result<Packed, Refusal> {
+        let most = asked.most().ok_or(Refusal::Size)?;
+        let (table, signing) = signed(&asked.given)?;
+        let cells = table.pack_within(most, &signing)?;
+        Ok(Packed { name: asked.name.clone(), table, signing, cells })
+    }
+
     /// The unsigned entry of a state and a symbol, 0 for blank.
     pub fn entry(&self, state: usize, symbol: usize) -> i32 {
         self.table.entry(state, symbol).unwrap_or(0)

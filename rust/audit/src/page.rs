@@ -1,43 +1,60 @@
 //! The report as one HTML page, with the cells drawn as a grid.
 
 use crate::grid::{grid, legend};
-use crate::words::{check, list, rule, sizes};
+use crate::words::{check, list, plain, rule, sizes, tally};
 use crate::{Packed, Report, SignedGoto, SignedRule};
 
 /// How the page looks.
 const STYLE: &str = include_str!("page.css");
 
 /// How the drawing of the cells is read.
-const CAPTION: &str =
-    "<p>Each cell has its number, Base and Check, and what is there; first one of each kind.</p>\n";
+const CAPTION: &str = "<p>Each cell has its number, Base and Check, and what is there. \
+                       Thick frames are signatures; every other cell comes from the table.</p>\n";
 
 /// The report on a packed table as a page that needs no other file and no script.
 pub fn page(packed: &Packed, report: &Report) -> String {
+    let name = escaped(&packed.name);
+    let (rules_told, gotos_told) = (tally(report.rule_tally()), tally(report.goto_tally()));
+    let left = report.blanks_left();
     let parts = [
         heading(packed, report),
-        format!("<h2>Cells</h2>\n{CAPTION}{}{}", legend(), grid(packed)),
-        format!("<h2>Signed rules</h2>\n{}", rules(packed, report)),
-        format!("<h2>Signed gotos</h2>\n{}", gotos(report)),
-        format!("<h2>Blanks for which nobody has signed</h2>\n{}", blanks(report)),
+        section("Cells", format!("{CAPTION}{}{}", legend(), grid(packed))),
+        section(&format!("Signed rules: {rules_told}"), rules(packed, report)),
+        section(&format!("Signed gotos: {gotos_told}"), gotos(report)),
+        section(&format!("Blanks for which nobody has signed: {left}"), blanks(report)),
     ];
     format!(
         "<!DOCTYPE html>\n<html lang=\"en\">\n<head>\n<meta charset=\"utf-8\"/>\n\
-         <title>Audit of a packed table</title>\n<style>\n{STYLE}</style>\n</head>\n\
+         <title>Audit of a packed table: {name}</title>\n<style>\n{STYLE}</style>\n</head>\n\
          <body>\n{}</body>\n</html>\n",
         parts.concat()
     )
 }
 
-/// What was audited, that it was read, and whether it is sound.
+/// What was audited, that it was read, whether it is sound, and whether anything is signed.
 fn heading(packed: &Packed, report: &Report) -> String {
-    let cells = packed.cells.base().len();
+    let unsigned = match report.is_unsigned() {
+        true => "<p>Nothing is signed: where the table is silent, nothing is decided.</p>\n",
+        false => "",
+    };
     format!(
-        "<h1>Audit of a packed table</h1>\n<p>{}.</p>\n\
+        "<h1>Audit of a packed table: {}</h1>\n<p>{}.</p>\n\
          <p>Every state was read with every symbol: each answer is the table's or a signature's.</p>\n\
-         <p>{}</p>\n",
-        sizes(packed.table.grammar(), packed.table.states(), cells),
+         <p>{}</p>\n{unsigned}",
+        escaped(&packed.name),
+        sizes(packed),
         check(&report.check)
     )
+}
+
+/// A part of the page under its heading, which stays in sight while the part is.
+fn section(heading: &str, inner: String) -> String {
+    format!("<section>\n<h2>{heading}</h2>\n{inner}</section>\n")
+}
+
+/// A text of others as a page shows it.
+fn escaped(text: &str) -> String {
+    plain(text).replace('&', "&amp;").replace('<', "&lt;").replace('>', "&gt;")
 }
 
 /// The table of signed rules.

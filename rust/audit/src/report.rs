@@ -14,6 +14,10 @@ pub struct Report {
     pub rules: Vec<SignedRule>,
     /// The signed gotos, by nonterminal.
     pub gotos: Vec<SignedGoto>,
+    /// How many cells have a signed rule in Check.
+    pub rule_cells: usize,
+    /// How many nonterminals A have Check A at cell 2A.
+    pub goto_cells: usize,
     /// The states with terminals that nobody has signed for, and these terminals.
     pub blank_actions: Vec<(usize, Vec<usize>)>,
     /// The nonterminals with states for which nobody has signed, and these states.
@@ -46,6 +50,14 @@ pub struct SignedGoto {
     pub repeats: Vec<usize>,
 }
 
+/// How many signatures of one kind there are, in how many cells, and how many blanks they fill.
+#[derive(Clone, Copy, Debug, PartialEq, Eq)]
+pub struct Tally {
+    pub signed: usize,
+    pub cells: usize,
+    pub filled: usize,
+}
+
 impl Report {
     /// The report on cells that are those of the table and its signing.
     pub fn new(packed: &Packed) -> Result<Report, Astray> {
@@ -57,12 +69,37 @@ impl Report {
         let actions = states.clone().map(|s| (s, terminals(packed, |a| silent(s, a))));
         let gotos = nonterminals.clone().map(|a| (a, self::states(packed, |s| silent(s, a))));
         Ok(Report {
-            check: packed.table.check(packed.signing),
+            check: packed.table.check(&packed.signing),
             rules: states.filter_map(|state| signed_rule(packed, state)).collect(),
-            gotos: nonterminals.filter_map(|a| signed_goto(packed, a)).collect(),
+            gotos: nonterminals.clone().filter_map(|a| signed_goto(packed, a)).collect(),
+            rule_cells: packed.cells.check().iter().filter(|&&check| check < 0).count(),
+            goto_cells: nonterminals.filter(|&a| packed.check(2 * a) == Some(a as i32)).count(),
             blank_actions: actions.filter(|(_, blanks)| !blanks.is_empty()).collect(),
             blank_gotos: gotos.filter(|(_, blanks)| !blanks.is_empty()).collect(),
         })
+    }
+
+    /// The signed rules, counted.
+    pub fn rule_tally(&self) -> Tally {
+        let filled = self.rules.iter().map(|signed| signed.fills.len()).sum();
+        Tally { signed: self.rules.len(), cells: self.rule_cells, filled }
+    }
+
+    /// The signed gotos, counted.
+    pub fn goto_tally(&self) -> Tally {
+        let filled = self.gotos.iter().map(|signed| signed.fills.len()).sum();
+        Tally { signed: self.gotos.len(), cells: self.goto_cells, filled }
+    }
+
+    /// How many blanks nobody has signed for.
+    pub fn blanks_left(&self) -> usize {
+        let lists = self.blank_actions.iter().chain(&self.blank_gotos);
+        lists.map(|(_, blanks)| blanks.len()).sum()
+    }
+
+    /// Whether there is no signature at all.
+    pub fn is_unsigned(&self) -> bool {
+        self.rules.is_empty() && self.gotos.is_empty()
     }
 }
 

@@ -2,15 +2,25 @@
 
 use slettrein::{Grammar, Refusal};
 
-/// Numbers of things of one name, in order: `terminals 0 to 2, 5`, or `none`.
+use crate::{Packed, Tally};
+
+/// So many things of one name: `1 blank`, `2 blanks`.
+pub fn count(number: usize, name: &str) -> String {
+    match number {
+        1 => format!("1 {name}"),
+        _ => format!("{number} {name}s"),
+    }
+}
+
+/// Things of one name, counted, with their numbers in order: `4 terminals: 0 to 2, 5`.
 pub fn list(name: &str, numbers: &[usize]) -> String {
+    let counted = count(numbers.len(), name);
     match numbers {
-        [] => "none".to_string(),
-        [number] => format!("{name} {number}"),
+        [] => counted,
         _ => {
             let runs = numbers.chunk_by(|before, after| before + 1 == *after);
             let runs: Vec<String> = runs.map(run).collect();
-            format!("{name}s {}", runs.join(", "))
+            format!("{counted}: {}", runs.join(", "))
         }
     }
 }
@@ -34,13 +44,16 @@ pub fn rule(grammar: &Grammar, rule: usize, arrow: &str) -> String {
     }
 }
 
-/// The sizes of a grammar's table and of its cells.
-pub fn sizes(grammar: &Grammar, states: usize, cells: usize) -> String {
+/// The sizes of a packed table and of its cells.
+pub fn sizes(packed: &Packed) -> String {
+    let grammar = packed.table.grammar();
     format!(
-        "{} terminals, {} symbols, {} rules, {states} states, {cells} cells",
+        "{} terminals, {} symbols, {}, {} states, {} cells",
         grammar.terminals(),
         grammar.symbols(),
-        grammar.rules(),
+        count(grammar.rules(), "rule"),
+        packed.table.states(),
+        packed.cells.base().len(),
     )
 }
 
@@ -48,8 +61,24 @@ pub fn sizes(grammar: &Grammar, states: usize, cells: usize) -> String {
 pub fn check(said: &Result<(), Refusal>) -> String {
     match said {
         Ok(()) => "The table check passes.".to_string(),
-        Err(refusal) => format!("The table check fails. {refusal}"),
+        Err(refusal) => format!("The table check fails with {}", refused(refusal)),
     }
+}
+
+/// A refusal by document 01's name and number, with its sentence.
+pub fn refused(refusal: &Refusal) -> String {
+    format!("{} ({}): {refusal}", refusal.name(), refusal.number())
+}
+
+/// How many signatures there are, in how many cells, and how many blanks they fill.
+pub fn tally(tally: Tally) -> String {
+    let (cells, blanks) = (count(tally.cells, "cell"), count(tally.filled, "blank"));
+    format!("{}, in {cells}, filling {blanks}", tally.signed)
+}
+
+/// A text of others with a question mark for each control character.
+pub fn plain(text: &str) -> String {
+    text.chars().map(|letter| if letter.is_control() { '?' } else { letter }).collect()
 }
 
 #[cfg(test)]
@@ -58,13 +87,32 @@ mod tests {
 
     #[test]
     fn numbers_in_a_row_are_joined() {
-        assert_eq!(list("state", &[]), "none");
-        assert_eq!(list("state", &[7]), "state 7");
-        assert_eq!(list("state", &[0, 1]), "states 0, 1");
+        assert_eq!(list("state", &[]), "0 states");
+        assert_eq!(list("state", &[7]), "1 state: 7");
+        assert_eq!(list("state", &[0, 1]), "2 states: 0, 1");
         assert_eq!(
             list("state", &[0, 1, 2, 4, 6, 7, 9, 10, 11]),
-            "states 0 to 2, 4, 6, 7, 9 to 11"
+            "9 states: 0 to 2, 4, 6, 7, 9 to 11"
         );
+    }
+
+    #[test]
+    fn signatures_are_counted() {
+        let none = Tally { signed: 0, cells: 0, filled: 0 };
+        assert_eq!(tally(none), "0, in 0 cells, filling 0 blanks");
+        let some = Tally { signed: 2, cells: 1, filled: 1 };
+        assert_eq!(tally(some), "2, in 1 cell, filling 1 blank");
+    }
+
+    #[test]
+    fn refusals_have_name_number_and_values() {
+        let told = "UNSOUND (6): On some path to state 4 its reduction by rule 7 is wrong.";
+        assert_eq!(refused(&Refusal::Unsound { state: 4, rule: 7 }), told);
+    }
+
+    #[test]
+    fn texts_of_others_stay_on_one_line() {
+        assert_eq!(plain("a\r\n\u{1b}[2Jb \u{e9}"), "a???[2Jb \u{e9}");
     }
 
     #[test]

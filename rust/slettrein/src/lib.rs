@@ -48,4 +48,4 @@ pub use grammar::Grammar;
 pub use parse::{Parse, Room, Stopped};
 pub use refusal::{Refusal, Signed};
 pub use signing::Signing;
-pub use table::Table;
+pub use table::{Table, MOST_CELLS};

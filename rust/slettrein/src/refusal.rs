@@ -71,6 +71,33 @@ impl Refusal {
         }
     }
 
+    /// The name that document 01 gives it.
+    ///
+    /// ```
+    /// let refusal = slettrein::Refusal::Grammar { rule: 3 };
+    /// assert_eq!((refusal.name(), refusal.number()), ("GRAMMAR", 2));
+    /// ```
+    pub fn name(&self) -> &'static str {
+        match self {
+            Refusal::Size => "SIZE",
+            Refusal::Grammar { .. } => "GRAMMAR",
+            Refusal::Entry { .. } => "ENTRY",
+            Refusal::Sign(_) => "SIGN",
+            Refusal::NoRoom => "NOROOM",
+            Refusal::Unsound { .. } => "UNSOUND",
+            Refusal::Token { .. } => "TOKEN",
+            Refusal::Syntax { .. } => "SYNTAX",
+            Refusal::Underflow { .. } => "UNDERFLOW",
+            Refusal::NoGoto { .. } => "NOGOTO",
+            Refusal::Stack { .. } => "STACK",
+            Refusal::Output { .. } => "OUTPUT",
+            Refusal::Moves { .. } => "MOVES",
+            Refusal::BadCell { .. } => "BADCELL",
+            Refusal::Line { .. } => "LINE",
+            Refusal::Text => "TEXT",
+        }
+    }
+
     /// The index of the token at which a parse was stopped.
     pub fn index(&self) -> Option<usize> {
         match *self {

@@ -6,7 +6,7 @@ use crate::{lent, Cells, Grammar, Parse, Refusal, Room, Signing, Stopped};
 const MOST_SYMBOLS: usize = 512;
 
 /// The most cells that document 01 allows.
-const MOST_CELLS: usize = 65_536;
+pub const MOST_CELLS: usize = 65_536;
 
 /// As many cells are tried first.
 const FIRST_CELLS: usize = 1_024;

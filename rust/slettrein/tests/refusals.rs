@@ -1,4 +1,4 @@
-//! Each refusal has its number and its sentence, and bad input brings the right one.
+//! Each refusal has its number, its name and its sentence, and bad input brings the right one.
 
 mod common;
 
@@ -6,29 +6,29 @@ use cases::board;
 use common::signed;
 use slettrein::{Grammar, Refusal, Signed, Table};
 
-/// Each refusal with its number and its sentence, which for those of a parse begins with the token.
+/// Each refusal with its number, its name and its sentence, which for those of a parse begins with the token.
 #[rustfmt::skip]
-fn all() -> Vec<(Refusal, u32, &'static str)> {
+fn all() -> Vec<(Refusal, u32, &'static str, &'static str)> {
     use Refusal::*;
     let (index, state, rule, symbol) = (31, 4, 7, 2);
     vec![
-        (Size, 1, "A number is out of bounds, or a list too long or short."),
-        (Grammar { rule }, 2, "Rule 7 is not as a rule must be."),
-        (Entry { index, state, symbol }, 3, "The entry of state 4 and symbol 2, index 31, is not allowed."),
-        (Sign(Signed::State(4)), 4, "What is signed for state 4 cannot be signed."),
-        (Sign(Signed::Nonterminal(5)), 4, "What is signed for nonterminal 5 cannot be signed."),
-        (NoRoom, 5, "The table needs more cells than there may be."),
-        (Unsound { state, rule }, 6, "On some path to state 4 its reduction by rule 7 is wrong."),
-        (Token { index }, 7, "the notation has no such token."),
-        (Syntax { index }, 8, "the notation does not go on with this, or may not end here."),
-        (Underflow { index, rule }, 9, "rule 7 takes more than was read; table or cells are wrong."),
-        (NoGoto { index, rule }, 10, "nothing says where to go after rule 7; table or cells are wrong."),
-        (Stack { index }, 11, "the stack was full."),
-        (Output { index }, 12, "the list of reductions was full."),
-        (Moves { index }, 13, "the limit of moves was reached."),
-        (BadCell { cell: 9 }, 14, "Cell 9 has no state that can be read."),
-        (Line { line: 3 }, 15, "Line 3 of the sheet is not as it must be."),
-        (Text, 16, "The sheet is longer than the room for it."),
+        (Size, 1, "SIZE", "A number is out of bounds, or a list too long or short."),
+        (Grammar { rule }, 2, "GRAMMAR", "Rule 7 is not as a rule must be."),
+        (Entry { index, state, symbol }, 3, "ENTRY", "The entry of state 4 and symbol 2, index 31, is not allowed."),
+        (Sign(Signed::State(4)), 4, "SIGN", "What is signed for state 4 cannot be signed."),
+        (Sign(Signed::Nonterminal(5)), 4, "SIGN", "What is signed for nonterminal 5 cannot be signed."),
+        (NoRoom, 5, "NOROOM", "The table needs more cells than there may be."),
+        (Unsound { state, rule }, 6, "UNSOUND", "On some path to state 4 its reduction by rule 7 is wrong."),
+        (Token { index }, 7, "TOKEN", "the notation has no such token."),
+        (Syntax { index }, 8, "SYNTAX", "the notation does not go on with this, or may not end here."),
+        (Underflow { index, rule }, 9, "UNDERFLOW", "rule 7 takes more than was read; table or cells are wrong."),
+        (NoGoto { index, rule }, 10, "NOGOTO", "nothing says where to go after rule 7; table or cells are wrong."),
+        (Stack { index }, 11, "STACK", "the stack was full."),
+        (Output { index }, 12, "OUTPUT", "the list of reductions was full."),
+        (Moves { index }, 13, "MOVES", "the limit of moves was reached."),
+        (BadCell { cell: 9 }, 14, "BADCELL", "Cell 9 has no state that can be read."),
+        (Line { line: 3 }, 15, "LINE", "Line 3 of the sheet is not as it must be."),
+        (Text, 16, "TEXT", "The sheet is longer than the room for it."),
     ]
 }
 
@@ -39,9 +39,10 @@ fn lost(end: i32, a: i32) -> Table {
 }
 
 #[test]
-fn every_refusal_has_its_number_and_its_sentence() {
-    for (refusal, number, sentence) in all() {
+fn every_refusal_has_its_number_its_name_and_its_sentence() {
+    for (refusal, number, name, sentence) in all() {
         assert_eq!(refusal.number(), number, "{refusal:?}");
+        assert_eq!(refusal.name(), name, "{refusal:?}");
         let of_a_parse = (7..=13).contains(&number);
         assert_eq!(refusal.index(), of_a_parse.then_some(31), "{refusal:?}");
         let place = if of_a_parse { "At token 31, counted from 0: " } else { "" };

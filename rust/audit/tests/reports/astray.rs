@@ -6,7 +6,9 @@ use slettrein::{Cells, Grammar, Signing, Table};
 
 /// What a report on a table with other cells says.
 fn astray(table: &Table, signing: &Signing, cells: &Cells) -> Astray {
-    Report::new(&Packed { table, signing, cells }).expect_err("cells of something else")
+    let name = "cells of something else".to_string();
+    let (table, signing, cells) = (table.clone(), signing.clone(), cells.clone());
+    Report::new(&Packed { name, table, signing, cells }).expect_err("cells of something else")
 }
 
 /// A table over S -> a in which every state has a goto on S.
