@@ -3,7 +3,7 @@ use Prim.Native.Nat.{ℕ, zero, suc}
 use mathlib.Core.Bool.{Bool, cond, _&&_}
 use mathlib.Core.List.{List}
 use mathlib.Core.Option.{Option, none, some}
-use lib.Dec.{leb, ltb}
+use lib.Dec.{leb, ltb, eqb}
 use lib.IntN.{ℤ}
 use lib.ListN.{length}
 use Rattle.tables.specs.declared.Sizes.{Sizes}
@@ -38,19 +38,25 @@ stepping r stack list = record { stepped = r; stack = stack; list = list }
 unfoldable pub made : After → Stepping
 made a = stepping (Made (a .moved)) (a .stack) (a .list)
 
+-- the lists of left sides and of lengths have an element for each rule
+unfoldable pub rulesFit : Sizes → List ℕ → List ℕ → Bool
+rulesFit z left lens = eqb (length left) (z .rules) && eqb (length lens) (z .rules)
+
 -- the state stands in the stack, and has passed no more tokens than it made moves
 unfoldable pub stands : State → List ℕ → Bool
 stands s stack = leb (s .depth) (length stack) && leb (s .place) (s .moves)
 
--- SIZE covers Base, Check, tokens, limit and where the state stands; then MOVES, else the move
+-- SIZE of a step: Base, Check, tokens and limit, the lists of left sides and of lengths, and where the state stands
+unfoldable pub stepFits : Sizes → List ℕ → List ℕ → List ℤ → List ℤ → List ℕ → ℕ → State → List ℕ → Bool
+stepFits z left lens base check tokens limit s stack = packedFits base check tokens limit && (rulesFit z left lens && stands s stack)
+
+-- SIZE, MOVES, else the move
 unfoldable pub stepAt : Sizes → List ℕ → List ℕ → List ℤ → List ℤ → List ℕ → ℕ → State → List ℕ → List ℕ → Stepping
 stepAt z left lens base check tokens limit s stack list =
-    cond (packedFits base check tokens limit)
-    (cond (stands s stack)
+    cond (stepFits z left lens base check tokens limit s stack)
     (cond (ltb (s .moves) limit)
     (made (moveAt (cellReads (z .rules) base check) (rulesOf left lens) (z .terminals) tokens s stack list))
     (stepping (Made (refusedBy s (Moves (s .place)))) stack list))
-    (stepping Size stack list))
     (stepping Size stack list)
 
 -- a step that goes on is followed by f, any other by nothing

@@ -10,7 +10,7 @@ use lib.ListN.{length, getD, set}
 use Rattle.tables.specs.declared.Sizes.{Sizes}
 use Rattle.tables.specs.Said.{OK}
 use Rattle.tables.specs.Grammar.{Grammar, grammar}
-use Rattle.tables.specs.Judgement.{judgement}
+use Rattle.tables.specs.Judgement.{grammarJudgement, judgement}
 use Rattle.cells.specs.Read.{twice}
 use Rattle.packing.specs.Job.{jobOf}
 use Rattle.packing.specs.Bench.{Bench}
@@ -25,9 +25,9 @@ use Rattle.machine.specs.Laws.Simulation.{carryStep}
 use Rattle.machine.specs.Laws.Steps.{steps, Made, parse-made}
 use Rattle.parser.specs.Reads.{cellReads}
 use Rattle.parser.specs.Outcome.{packedFits, packedParse}
-use Rattle.parser.specs.Step.{stepsAt}
+use Rattle.parser.specs.Step.{rulesFit, stepsAt}
 use Rattle.parser.specs.Laws.Simulated.{steps-same, outcome-same}
-use Rattle.parser.specs.Laws.Step.{ended, steps-parse}
+use Rattle.parser.specs.Laws.Step.{rules-judged, ended, steps-parse}
 use Rattle.parser.specs.Laws.Outcome.{parse-once, packed-parsed, packed-whole}
 
 module _ (z : Sizes) (states : ℕ) (left lens rights : List ℕ) (table : List ℤ) (srule sgoto : List ℕ) where
@@ -59,12 +59,16 @@ pub counted : (g : Grammar) (rules : ℕ) (base check : List ℤ) (j : Job) (lim
     → Made g (cellReads rules base check) j limit start (parse g (cellReads rules base check) j limit)
 counted g rules base check = parse-made g (cellReads rules base check)
 
--- With any cells, steps in turn from the beginning are the run: its end comes with the last of them, and the stack and the list are as it leaves them.
-pub stepwise : (z : Sizes) (left lens : List ℕ) (base check : List ℤ) (tokens : List ℕ) (limit : ℕ) → packedFits base check tokens limit ≡ true
+-- With any cells, where SIZE is not said, steps in turn from the beginning are the run: its end comes with the last of them, and the stack and the list are as it leaves them.
+pub stepwise : (z : Sizes) (left lens : List ℕ) (base check : List ℤ) (tokens : List ℕ) (limit : ℕ) → packedFits base check tokens limit ≡ true → rulesFit z left lens ≡ true
     → (stack list : List ℕ) → length stack ≢ 0
     → stepsAt z left lens base check tokens limit (suc limit) begin (set stack 0 0) list
     ≡ ended (parseAt (cellReads (z .rules) base check) (rulesOf left lens) (z .terminals) tokens limit stack list)
 stepwise = steps-parse
+
+-- A grammar that is not refused has the lists that a step asks for.
+pub judged-fits : (z : Sizes) (left lens rights : List ℕ) → grammarJudgement z left lens rights ≡ OK [] → rulesFit z left lens ≡ true
+judged-fits = rules-judged
 
 -- Any two outcomes that the contract of `parse` allows for one input are equal.
 pub once : (z : Sizes) (left lens rights : List ℕ) (base check : List ℤ) (tokens : List ℕ) (limit : ℕ) (stack list : List ℕ) (a b : Parsed) {stack₁ list₁ stack₂ list₂ : List ℕ}

@@ -70,11 +70,11 @@ fn go_on(
     r: u32,
     d: usize,
 ) -> Moved
-    requires { ⌜ Ready s (now stack) × (0 < r) × (0 < d) × (d ≤ s .depth) × (s .count < length (now list)) × (cellsFit (now base) (now check) ≡ true) ⌝ }
+    requires { ⌜ Ready s (now stack) × (0 < r) × (0 < d) × (d ≤ s .depth) × (s .count < length (now list)) × (cellsFit (now base) (now check) ≡ true) × (r ≤ length (now left)) ⌝ }
     ensures { λ e. ⌜ ((lens : List ℕ) → after e (now (stack .exit)) (now (list .exit)) ≡ goneAt (cellReads (z .rules) (now (base .entry)) (now (check .entry))) (rulesOf (now (left .entry)) lens) s r d (now (stack .entry)) (now (list .entry))) ⌝ }
 {
     let p = stack[d - 1];
-    let x = number::at_u32(left, r as usize - 1);
+    let x = left[r as usize - 1];
     let read = goto_at(z.rules, base, check, p, x);
     if let Read::Blank = read {
         return refused(s, Answer::NoGoto(s.place, r));
@@ -111,12 +111,12 @@ fn reduce(
     s: State,
     r: u32,
 ) -> Moved
-    requires { ⌜ Ready s (now stack) × (0 < r) × (cellsFit (now base) (now check) ≡ true) ⌝ }
+    requires { ⌜ Ready s (now stack) × (0 < r) × (cellsFit (now base) (now check) ≡ true) × (r ≤ length (now left)) × (r ≤ length (now lens)) ⌝ }
     ensures { λ e. ⌜ after e (now (stack .exit)) (now (list .exit)) ≡ reduceAt (cellReads (z .rules) (now (base .entry)) (now (check .entry))) (rulesOf (now (left .entry)) (now (lens .entry))) s r (now (stack .entry)) (now (list .entry)) ⌝ }
 {
     let count = s.count;
     if count < list.len() {
-        let size = number::at_u32(lens, r as usize - 1) as usize;
+        let size = lens[r as usize - 1] as usize;
         let depth = s.depth;
         if size < depth {
             go_on(z, left, base, check, stack, list, s, r, depth - size)
@@ -140,7 +140,7 @@ pub(crate) fn packed_move(
     list: &mut [u32],
     s: State,
 ) -> Moved
-    requires { ⌜ Ready s (now stack) × (cellsFit (now base) (now check) ≡ true) ⌝ }
+    requires { ⌜ Ready s (now stack) × (cellsFit (now base) (now check) ≡ true) × (z .rules ≤ length (now left)) × (z .rules ≤ length (now lens)) ⌝ }
     ensures { λ e. ⌜ after e (now (stack .exit)) (now (list .exit)) ≡ moveAt (cellReads (z .rules) (now (base .entry)) (now (check .entry))) (rulesOf (now (left .entry)) (now (lens .entry))) (z .terminals) (now (tokens .entry)) s (now (stack .entry)) (now (list .entry)) ⌝ }
 {
     let Current::Is(a) = token_at(tokens, z.terminals, s.place) else {

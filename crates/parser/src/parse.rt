@@ -2,6 +2,7 @@
 ghost use mathlib.Core.Path.{_≡_};
 ghost use mathlib.Core.Bool.{true};
 ghost use Prim.Native.Nat.{_≤_};
+ghost use lib.ListN.{length};
 ghost use Rattle.cells.specs.Size.{cellsFit};
 ghost use Rattle.machine.specs.Arrays.{rulesOf, done, parseAt};
 ghost use Rattle.machine.specs.Outcome.{saidOf, movesOf, outcome};
@@ -31,7 +32,7 @@ fn run(
     stack: &mut [u32],
     list: &mut [u32],
 ) -> Ran
-    requires { ⌜ (limit ≤ 1000000) × (cellsFit (now base) (now check) ≡ true) ⌝ }
+    requires { ⌜ (limit ≤ 1000000) × (cellsFit (now base) (now check) ≡ true) × (z .rules ≤ length (now left)) × (z .rules ≤ length (now lens)) ⌝ }
     ensures { λ r. ⌜ done r (now (stack .exit)) (now (list .exit)) ≡ parseAt (cellReads (z .rules) (now (base .entry)) (now (check .entry))) (rulesOf (now (left .entry)) (now (lens .entry))) (z .terminals) (now (tokens .entry)) limit (now (stack .entry)) (now (list .entry)) ⌝ }
 {
     if stack.len() == 0 {

@@ -32,9 +32,9 @@ module _ (base check : List ℤ) (tokens : List ℕ) (limit : ℕ) (e : packedFi
 
 module _ (z : Sizes) (left lens rights : List ℕ) where
   -- a grammar that is not refused has its sizes
-  grammar-sizes : grammarJudgement z left lens rights ≡ OK [] → grammarFits z left lens rights ≡ true
+  pub grammar-sizes : grammarJudgement z left lens rights ≡ OK [] → GrammarFits z left lens rights
   unfolding grammarJudgement
-  grammar-sizes e = by (grammarFits z left lens rights) e
+  grammar-sizes e = grammar-fits z left lens rights (by (grammarFits z left lens rights) e)
     where
       by : (b : Bool) → cond b (named (lowestRule z left lens rights) (λ i. GRAMMAR (i + 1)) (OK [])) SIZE ≡ OK [] → b ≡ true
       by true n = refl
@@ -42,9 +42,7 @@ module _ (z : Sizes) (left lens rights : List ℕ) where
 
   -- so its arrays tell the machine on arrays what it says
   pub grammar-told : grammarJudgement z left lens rights ≡ OK [] → Told (grammar z left lens rights) (rulesOf left lens)
-  grammar-told e =
-      let f : GrammarFits z left lens rights = grammar-fits z left lens rights (grammar-sizes e) in
-      told z left lens rights (f .total)
+  grammar-told e = told z left lens rights (grammar-sizes e .total)
 
 -- where grammar, table and signing are not refused, the grammar by itself is not
 pub grammar-good : (z : Sizes) (states : ℕ) (left lens rights : List ℕ) (table : List ℤ) (srule sgoto : List ℕ)

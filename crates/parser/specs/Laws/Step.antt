@@ -2,15 +2,19 @@
 use mathlib.Core.Path.{_≡_, refl, ap, sym, _∙_}
 use mathlib.Core.Logic.{_≢_}
 use mathlib.Core.Bool.{Bool, true, false}
-use mathlib.Core.List.{List}
+use mathlib.Core.List.{List, []}
 use Prim.Native.Nat.{ℕ, zero, suc, _+_, _-_, _≤_, _<_}
-use lib.Dec.{leb, ltb}
+use lib.Dec.{leb, ltb, eqb}
 use lib.IntN.{ℤ}
 use lib.ListN.{length, set}
 use native.Mathlib.Omega.{arith}
-use borrow.Author.Tests.{ltb-true, ltb-false, leb-true, lt-ltb, le-ltb, le-leb}
+use borrow.Author.Tests.{ltb-true, ltb-false, leb-true, eqb-true, lt-ltb, le-ltb, le-leb, eq-eqb}
 use Rattle.tables.specs.declared.Sizes.{Sizes}
+use Rattle.tables.specs.Said.{OK}
+use Rattle.tables.specs.Judgement.{grammarJudgement}
 use Rattle.tables.specs.Laws.Tests.{and-true}
+use Rattle.tables.specs.Laws.Size.{GrammarFits}
+use Rattle.cells.specs.Size.{cellsFit}
 use Rattle.machine.specs.declared.State.{State}
 use Rattle.machine.specs.declared.Moved.{Moved}
 use Rattle.machine.specs.declared.Moved.the-variants.{On, Halt}
@@ -21,31 +25,58 @@ use Rattle.machine.specs.Laws.Turns.{Turning, turn-begin, parse-turns, turn-on,
 use Rattle.parser.specs.declared.Stepped.the-variants.{Made}
 use Rattle.parser.specs.Reads.{cellReads}
 use Rattle.parser.specs.Outcome.{packedFits}
-use Rattle.parser.specs.Step.{Stepping, stepping, made, stands, stepAt, followed, stepsAt}
-use Rattle.parser.specs.Laws.Judged.{packed-limit}
+use Rattle.parser.specs.Step.{Stepping, stepping, made, rulesFit, stands, stepFits, stepAt, followed, stepsAt}
+use Rattle.parser.specs.Laws.Judged.{packed-cells, packed-limit, grammar-sizes}
 
--- what a move asks of a state that stands
-pub stands-ready : (s : State) (stack : List ℕ) {limit : ℕ} → stands s stack ≡ true → s .moves < limit → limit ≤ 1000000 → Ready s stack
-unfolding stands
-stands-ready s stack e h l =
-    let k : (leb (s .depth) (length stack) ≡ true) × (leb (s .place) (s .moves) ≡ true) = and-true (leb (s .depth) (length stack)) e in
-    record { deep = leb-true _ _ (k .0); placed = leb-true _ _ (k .1); limited = omega arith }
+-- a grammar that is not refused has an element for each rule
+pub rules-judged : (z : Sizes) (left lens rights : List ℕ) → grammarJudgement z left lens rights ≡ OK [] → rulesFit z left lens ≡ true
+unfolding rulesFit
+rules-judged z left lens rights e =
+    let f : GrammarFits z left lens rights = grammar-sizes z left lens rights e in
+    rw (eq-eqb _ _ (f .lefts)) (eq-eqb _ _ (f .lengths))
+
+-- what a move asks for
+pub record StepFits (z : Sizes) (left lens : List ℕ) (base check : List ℤ) (limit : ℕ) (s : State) (stack : List ℕ) : Type 0 where
+  pub cells : cellsFit base check ≡ true
+  pub lefts : z .rules ≤ length left
+  pub lengths : z .rules ≤ length lens
+  pub ready : s .moves < limit → Ready s stack
+
+module _ (z : Sizes) (left lens : List ℕ) (base check : List ℤ) (tokens : List ℕ) (limit : ℕ) (s : State) (stack : List ℕ) where
+  -- where a step does not say SIZE, its move has what it asks for
+  pub step-fits : stepFits z left lens base check tokens limit s stack ≡ true → StepFits z left lens base check limit s stack
+  unfolding stepFits rulesFit stands
+  step-fits e =
+      let p : (packedFits base check tokens limit ≡ true) × _ = and-true (packedFits base check tokens limit) e in
+      let q : (rulesFit z left lens ≡ true) × (stands s stack ≡ true) = and-true (rulesFit z left lens) (p .1) in
+      let r : (eqb (length left) (z .rules) ≡ true) × (eqb (length lens) (z .rules) ≡ true) = and-true (eqb (length left) (z .rules)) (q .0) in
+      let t : (leb (s .depth) (length stack) ≡ true) × (leb (s .place) (s .moves) ≡ true) = and-true (leb (s .depth) (length stack)) (q .1) in
+      let n : length left ≡ z .rules = eqb-true _ _ (r .0) in
+      let k : length lens ≡ z .rules = eqb-true _ _ (r .1) in
+      let m : limit ≤ 1000000 = packed-limit base check tokens limit (p .0) in
+      record {
+        cells = packed-cells base check tokens limit (p .0);
+        lefts = omega arith;
+        lengths = omega arith;
+        ready = λ h. record { deep = leb-true _ _ (t .0); placed = leb-true _ _ (t .1); limited = omega arith };
+      }
 
 -- the end of a run, as the last step gives it
 abbrev pub ended : Done → Stepping
 ended d = stepping (Made (Halt (d .ran))) (d .stack) (d .list)
 
-module _ (z : Sizes) (left lens : List ℕ) (base check : List ℤ) (tokens : List ℕ) (limit : ℕ) (fits : packedFits base check tokens limit ≡ true) where
+module _ (z : Sizes) (left lens : List ℕ) (base check : List ℤ) (tokens : List ℕ) (limit : ℕ) (fits : packedFits base check tokens limit ≡ true)
+    (whole : rulesFit z left lens ≡ true) where
   step-made : (s : State) (stack list : List ℕ) → s .depth ≤ length stack → s .place ≤ s .moves → s .moves < limit
       → stepAt z left lens base check tokens limit s stack list
       ≡ made (moveAt (cellReads (z .rules) base check) (rulesOf left lens) (z .terminals) tokens s stack list)
-  unfolding stepAt stands
-  step-made s stack list d p h = rw (fits, le-leb _ _ d, le-leb _ _ p, lt-ltb _ _ h)
+  unfolding stepAt stepFits stands
+  step-made s stack list d p h = rw (fits, whole, le-leb _ _ d, le-leb _ _ p, lt-ltb _ _ h)
 
   step-ended : (s : State) (stack list : List ℕ) → s .depth ≤ length stack → s .place ≤ s .moves → limit ≤ s .moves
       → stepAt z left lens base check tokens limit s stack list ≡ ended (record { ran = outOf s; stack = stack; list = list })
-  unfolding stepAt stands refusedBy outOf
-  step-ended s stack list d p h = rw (fits, le-leb _ _ d, le-leb _ _ p, le-ltb _ _ h)
+  unfolding stepAt stepFits stands refusedBy outOf
+  step-ended s stack list d p h = rw (fits, whole, le-leb _ _ d, le-leb _ _ p, le-ltb _ _ h)
 
   module _ (stack₀ list₀ : List ℕ) where
     -- what is carried from step to step

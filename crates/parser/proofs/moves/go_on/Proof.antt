@@ -33,11 +33,14 @@ mul-p c = search needs
 slice-read-p : tie.Need-slice-read-p
 slice-read-p c = search needs
 
-sub-at-u32 : tie.Need-sub-at-u32
-sub-at-u32 c = search needs
+sub-x : tie.Need-sub-x
+sub-x c = search needs
 
-at-u32-requires : tie.Need-at-u32-requires
-at-u32-requires c κs = search needs
+mul-x : tie.Need-mul-x
+mul-x c = search needs
+
+shared-slice-read-x : tie.Need-shared-slice-read-x
+shared-slice-read-x c = search needs
 
 goto-at-requires : tie.Need-goto-at-requires
 goto-at-requires c κs = search needs
@@ -52,7 +55,6 @@ returns : tie.Need-returns
 unfolding goneAt cellReads rulesOf
 returns c lens =
     rw (
-      ← c .before .before .before .before .at-u32 .ensures,
       sym (c .before .before .before .goto-at .ensures) ∙ c .before .enum-told .given .1,
       c .refused .ensures,
     )
@@ -67,7 +69,6 @@ returns-2 : tie.Need-returns-2
 unfolding goneAt cellReads rulesOf
 returns-2 c lens =
     rw (
-      ← c .before .before .before .before .at-u32 .ensures,
       ← c .before .before .before .goto-at .ensures,
       none-left _ (c .before .before .match .keys2) (c .before .match2 .keys2),
       c .refused2 .ensures,
@@ -94,14 +95,14 @@ mul-list c = search needs
 slice-write-list : tie.Need-slice-write-list
 slice-write-list c = search needs
 
-add-t24 : tie.Need-add-t24
-add-t24 c = search needs
+add-t26 : tie.Need-add-t26
+add-t26 c = search needs
 
-add-t27 : tie.Need-add-t27
-add-t27 c = search needs
+add-t29 : tie.Need-add-t29
+add-t29 c = search needs
 
-add-t28 : tie.Need-add-t28
-add-t28 c = search needs
+add-t30 : tie.Need-add-t30
+add-t30 c = search needs
 
 refused-requires-3 : tie.Need-refused-requires-3
 refused-requires-3 c κs = search needs
@@ -116,7 +117,6 @@ returns-3 : tie.Need-returns-3
 unfolding goneAt cellReads rulesOf reduced
 returns-3 c lens =
     rw (
-      ← c .before .before .before .before .before .before .before .before .at-u32 .ensures,
       sym (c .before .before .before .before .before .before .before .goto-at .ensures) ∙ c .before .before .before .before .read .given .1,
       lt-ltb _ _ (c .before .before .if1 .taken),
       ← c .before .cell-of .ensures,
@@ -126,7 +126,6 @@ returns-4 : tie.Need-returns-4
 unfolding goneAt cellReads rulesOf
 returns-4 c lens =
     rw (
-      ← c .before .before .before .before .before .before .before .at-u32 .ensures,
       sym (c .before .before .before .before .before .before .goto-at .ensures) ∙ c .before .before .before .read .given .1,
       le-ltb _ _ (c .before .if1 .left),
       c .refused3 .ensures,
@@ -139,8 +138,9 @@ go-on-spec =
     sub-p
     mul-p
     slice-read-p
-    sub-at-u32
-    at-u32-requires
+    sub-x
+    mul-x
+    shared-slice-read-x
     goto-at-requires
     enum-told
     refused-requires
@@ -154,9 +154,9 @@ go-on-spec =
     slice-write-stack
     mul-list
     slice-write-list
-    add-t24
-    add-t27
-    add-t28
+    add-t26
+    add-t29
+    add-t30
     refused-requires-3
     same-length
     same-length-2

@@ -48,7 +48,8 @@ enum-known-read c = search needs
 reduce-requires : tie.Need-reduce-requires
 reduce-requires c κs =
     let h = reduced _ _ _ _ _ _ (sym (c .before .before .before .before .before .action-at .ensures) ∙ c .before .before .before .read .given .1) in
-    (c .before .before .before .before .before .before .before .before .before .before .before .before .before .before .before .pre .0, omega (arith, h .least), c .before .before .before .before .before .before .before .before .before .before .before .before .before .before .before .pre .1)
+    let p = c .before .before .before .before .before .before .before .before .before .before .before .before .before .before .before .pre in
+    (p .0, omega (arith, h .least), p .1, omega (arith, h .most, p .2), omega (arith, h .most, p .3))
 
 same-length : tie.Need-same-length
 same-length c = search needs

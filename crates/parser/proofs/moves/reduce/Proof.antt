@@ -1,17 +1,22 @@
+use Prim.Native.Nat.{_-_}
+use native.Mathlib.Omega.{arith}
 use borrow.Author.Tests.{lt-ltb, le-ltb}
 use Rattle.machine.specs.Arrays.{rulesOf, reduceAt}
 use borrow.Author.Needs.{needs}
 use Rattle.parser.proofs.moves.reduce.Statement.{statement}
 use Rattle.parser.proofs.moves.reduce.Tie as tie
 
-sub-at-u32 : tie.Need-sub-at-u32
-sub-at-u32 c = search needs
+sub-size : tie.Need-sub-size
+sub-size c = search needs
 
-at-u32-requires : tie.Need-at-u32-requires
-at-u32-requires c κs = search needs
+mul-size : tie.Need-mul-size
+mul-size c = search needs
+
+shared-slice-read-size : tie.Need-shared-slice-read-size
+shared-slice-read-size c = search needs
 
 cast-size : tie.Need-cast-size
-cast-size c = search needs
+cast-size c = omega (arith, c .shared-slice-known3 .given (c .before .before .before .before .before .before .args .r - 1))
 
 sub-go-on : tie.Need-sub-go-on
 sub-go-on c = search needs
@@ -36,7 +41,6 @@ unfolding reduceAt rulesOf
 returns c =
     rw (
       lt-ltb _ _ (c .before .before .before .before .before .before .before .before .before .if1 .taken),
-      ← c .before .before .before .before .before .before .before .before .at-u32 .ensures,
       lt-ltb _ _ (c .before .before .before .before .before .before .before .if2 .taken),
     )
     (c .before .before .before .before .go-on .ensures (c .before .before .before .before .before .before .before .before .before .before .before .before .before .before .args .lens .now))
@@ -46,7 +50,6 @@ unfolding reduceAt rulesOf
 returns-2 c =
     rw (
       lt-ltb _ _ (c .before .before .before .if1 .taken),
-      ← c .before .before .at-u32 .ensures,
       le-ltb _ _ (c .before .if2 .left),
       c .refused .ensures,
     )
@@ -59,8 +62,9 @@ pub reduce-spec : {M : Type 1} → statement M
 reduce-spec =
     tie.close
     (tie.spec
-    sub-at-u32
-    at-u32-requires
+    sub-size
+    mul-size
+    shared-slice-read-size
     cast-size
     sub-go-on
     go-on-requires

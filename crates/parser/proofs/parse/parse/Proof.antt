@@ -1,6 +1,7 @@
 use mathlib.Core.Path.{_≡_, refl, sym, ap, _∙_}
 use mathlib.Core.List.{List, [], _∷_}
 use Prim.Native.Nat.{ℕ}
+use native.Mathlib.Omega.{arith}
 use Rattle.tables.specs.Said.{OK}
 use Rattle.tables.specs.Grammar.{grammar}
 use Rattle.tables.specs.Judgement.{saidOf, grammarJudgement}
@@ -8,7 +9,7 @@ use Rattle.machine.specs.Outcome.{Outcome, outcome, unchanged, judgedThen}
 use Rattle.machine.specs.Laws.Outcome.{parse-left}
 use Rattle.parser.specs.Reads.{cellReads}
 use Rattle.parser.specs.Outcome.{packedParse}
-use Rattle.parser.specs.Laws.Judged.{packed-cells, packed-limit, grammar-told}
+use Rattle.parser.specs.Laws.Judged.{packed-cells, packed-limit, grammar-sizes, grammar-told}
 use Rattle.machine.specs.Laws.Refused.{refused-said}
 use borrow.Author.Needs.{needs}
 use Rattle.parser.proofs.parse.parse.Statement.{statement}
@@ -35,7 +36,8 @@ returns c =
 run-requires : tie.Need-run-requires
 run-requires c κs =
     let f = sym (c .before .before .before .before .before .before .packed-fits .ensures) ∙ c .before .before .before .before .before .if1 .taken in
-    (packed-limit _ _ _ _ f, packed-cells _ _ _ _ f)
+    let g = grammar-sizes _ _ _ _ (sym (c .before .before .before .before .judge-grammar .ensures) ∙ ap saidOf (c .before .before .enum-told .given .1)) in
+    (packed-limit _ _ _ _ f, packed-cells _ _ _ _ f, omega (arith, g .lefts), omega (arith, g .lengths))
 
 clear-u32-requires : tie.Need-clear-u32-requires
 clear-u32-requires c κs = search needs

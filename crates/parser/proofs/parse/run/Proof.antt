@@ -31,7 +31,9 @@ loop-holds c =
     (a .stack .now) (a .list .now) (c .if1 .left)
 
 packed-move-requires : tie.Need-packed-move-requires Inv-loop μ-loop
-packed-move-requires c κs = (turn-ready _ _ _ _ (c .before .before .before .before .loop .inv) (c .before .before .if2 .taken) (c .before .before .before .before .before .before .before .before .before .before .before .pre .0), c .before .before .before .before .before .before .before .before .before .before .before .pre .1)
+packed-move-requires c κs =
+    let p = c .before .before .before .before .before .before .before .before .before .before .before .pre in
+    (turn-ready _ _ _ _ (c .before .before .before .before .loop .inv) (c .before .before .if2 .taken) (p .0), p .1, p .2, p .3)
 
 enum-known-t : tie.Need-enum-known-t Inv-loop μ-loop
 enum-known-t c = search needs
