@@ -2,7 +2,7 @@
 use Prim.Native.Nat.{ℕ}
 use mathlib.Core.List.{List}
 use lib.ListN.{replicate}
-use lib.IntN.{ℤ, pos}
+use lib.IntN.{pos}
 use Rattle.tables.specs.Said.{Said}
 use Rattle.packing.specs.Bench.{Bench}
 use Rattle.packing.specs.Written.{bench}

@@ -15,6 +15,7 @@ use Rattle.tables.specs.Grammar.{Grammar}
 use Rattle.tables.specs.Judgement as tables
 use Rattle.tables.specs.Judgement.{judgement, grammarJudgement}
 use Rattle.tables.specs.Laws.Judgement.{Verdict, said-once}
+use Rattle.tables.specs.Laws.Numbers.{judged-low}
 use Rattle.cells.specs.declared.Asked.{Asked}
 use Rattle.cells.specs.Asked as cells
 use Rattle.cells.specs.Asked.{readSaid}
@@ -24,6 +25,7 @@ use Rattle.packing.specs.Bench.{Bench}
 use Rattle.packing.specs.Packing as packing
 use Rattle.packing.specs.Packing.{Result, result, packed}
 use Rattle.packing.specs.Laws.Outcome.{packing-once}
+use Rattle.packing.specs.Laws.Numbers.{packed-number}
 use Rattle.machine.specs.declared.Parsed.{Parsed}
 use Rattle.machine.specs.Reads.{Reads}
 use Rattle.machine.specs.Machine as machine
@@ -54,7 +56,7 @@ module _ (z : Sizes) (states : ℕ) (left lens rights : List ℕ) (table : List 
 
   -- It says 0 to 4.
   pub judge-numbers : judgement z states left lens rights table srule sgoto .number ≤ 4
-  judge-numbers = numbers.judge-number z states left lens rights table srule sgoto
+  judge-numbers = judged-low z states left lens rights table srule sgoto
 
   -- Any two answers that its contract allows for one input are equal.
   pub judge-once : (a b : Judged) → tables.saidOf a ≡ judgement z states left lens rights table srule sgoto → tables.saidOf b ≡ judgement z states left lens rights table srule sgoto → a ≡ b
@@ -66,7 +68,7 @@ module _ (z : Sizes) (states : ℕ) (left lens rights : List ℕ) (table : List 
 
   -- It says 0 to 5.
   pub pack-numbers : (B : Bench) → packed z states left lens rights table srule sgoto B .said .number ≤ 5
-  pack-numbers = numbers.pack-number z states left lens rights table srule sgoto
+  pack-numbers = packed-number z states left lens rights table srule sgoto
 
   -- Any two outcomes that its contract allows for one input are equal, the arrays too.
   pub pack-once : (B : Bench) (a b : Packing) {A C : Bench} → result (packing.saidOf a) A ≡ packed z states left lens rights table srule sgoto B

@@ -16,6 +16,7 @@ use Rattle.tables.specs.Grammar.{Grammar, grammar}
 use Rattle.tables.specs.Judgement.{judgement}
 use Rattle.tables.specs.Entry.{actionAt, gotoAt}
 use Rattle.tables.specs.Filled.{signedAction, signedGoto, filledActionAt, filledGotoAt}
+use Rattle.tables.specs.Laws.Filled as filled
 use Rattle.cells.specs.Read as cells
 use Rattle.cells.specs.Read.{twice, cellsOf, readCell}
 use Rattle.packing.specs.Bench.{Bench}
@@ -34,7 +35,6 @@ use Rattle.demands.specs.Laws.Room as room
 use Rattle.sheets.specs.Outcome.{readOutcome, sheetRead, sheetWrite}
 use Rattle.sheets.specs.Meaning.{Meaning}
 use Rattle.sheets.specs.Theorems as sheets
-use Rattle.demands.specs.Laws.Filled as filled
 use Rattle.demands.specs.Laws.Packed as laws
 
 module _ (z : Sizes) (table : List ℤ) (srule sgoto : List ℕ) where

@@ -4,6 +4,5 @@ pub mod Moves
 pub mod Cells
 pub mod Judged
 pub mod Numbers
-pub mod Filled
 pub mod Packed
 pub mod Room

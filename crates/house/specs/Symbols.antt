@@ -1,11 +1,7 @@
--- The symbols of the house notation: the terminals 0..17 of 01, then the nonterminals, one for each field.
+-- The symbols of the house notation: the terminals 1..17 of 01 (0 is the end mark, which is never in a token list), then the nonterminals, one for each field.
 use Prim.Native.Nat.{ℕ}
 
 -- ---- terminals
-
--- the end mark, which is never in a token list
-abbrev pub END : ℕ
-END = 0
 
 abbrev pub VARIANT : ℕ
 VARIANT = 1

@@ -1,3 +1,4 @@
+pub mod Everywhere
 pub mod Rows
 pub mod WellFormed
 pub mod Grow
@@ -33,3 +34,5 @@ pub mod Turns
 pub mod Whole
 pub mod Packing
 pub mod Outcome
+pub mod Stored
+pub mod Numbers

@@ -16,3 +16,4 @@ pub mod Unique
 pub mod Emit
 pub mod Fitting
 pub mod Writing
+pub mod Numbers

@@ -1,22 +1,6 @@
--- The sheet of the small board, worked in 01: it is the text of its signing, and is read back.
-use mathlib.Core.Path.{_≡_, refl}
+-- The sheet of the small board, worked in 01.
 use mathlib.Core.List.{List, [], _∷_}
 use Prim.Native.Nat.{ℕ}
-use Rattle.tables.specs.declared.Sizes.{Sizes}
-use Rattle.sheets.specs.Decimal.{digits, decimal}
-use Rattle.sheets.specs.Sheet.{value, line, entryKey, header, entries, joined, sheetLines, sheetText}
-use Rattle.sheets.specs.Lines.{begins, stands, digitsOn, numberOn, valueAt, entryAt, entryWants, exactWants, wants, values, linesFrom, linesOf}
-
--- the numbers of its grammar
-abbrev board : Sizes
-board = record { terminals = 3; symbols = 6; rules = 5 }
-
--- the signed rules of its seven states, and the signed states of its nonterminals
-abbrev srule : List ℕ
-srule = 0 ∷ 0 ∷ 3 ∷ 4 ∷ 0 ∷ 2 ∷ 5 ∷ []
-
-abbrev sgoto : List ℕ
-sgoto = 0 ∷ 1 ∷ 5 ∷ []
 
 -- its sheet, line by line
 abbrev pub sheet : List ℕ
@@ -50,11 +34,3 @@ sheet =
     -- goto.5=5
     103 ∷ 111 ∷ 116 ∷ 111 ∷ 46 ∷ 53 ∷ 61 ∷ 53 ∷ 10 ∷
     []
-
-pub sheet-written : sheetText board 7 srule sgoto ≡ sheet
-unfolding digits decimal value line entryKey header entries joined sheetLines sheetText
-sheet-written = refl
-
-pub sheet-read : linesOf board 7 sheet ≡ values (0 ∷ 0 ∷ 3 ∷ 4 ∷ 0 ∷ 2 ∷ 5 ∷ 1 ∷ 5 ∷ [])
-unfolding digits decimal line entryKey header begins stands digitsOn numberOn valueAt entryAt entryWants exactWants wants linesFrom linesOf
-sheet-read = refl

@@ -1,5 +1,5 @@
 -- The judgement of grammar, table and signing: numbers 1 to 4, in that order.
-use Prim.Native.Nat.{ℕ, suc, _+_}
+use Prim.Native.Nat.{ℕ, _+_}
 use mathlib.Core.Bool.{cond}
 use mathlib.Core.List.{List, []}
 use lib.IntN.{ℤ}

@@ -1,10 +1,13 @@
 pub mod Tests
 pub mod Lists
+pub mod Members
 pub mod Lowest
 pub mod Size
 pub mod Grammar
 pub mod Entry
 pub mod Signing
 pub mod Judgement
+pub mod Numbers
 pub mod Filled
 pub mod Place
+pub mod Begins

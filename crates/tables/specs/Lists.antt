@@ -1,6 +1,6 @@
 -- What is said of lists and of numbers below a bound: all, the sum, among, the lowest.
 use Prim.Native.Nat.{ℕ, zero, suc, _+_}
-use mathlib.Core.Bool.{Bool, true, false, not, cond, _&&_, _||_}
+use mathlib.Core.Bool.{Bool, true, false, not, _&&_, _||_}
 use mathlib.Core.List.{List, [], _∷_}
 use lib.Dec.{eqb}
 use Rattle.tables.specs.declared.Lowest.{Lowest}

@@ -1,6 +1,6 @@
 -- The table of worked cases, computed. Assumes nothing.
 use mathlib.Core.Path.{_≡_, refl}
-use mathlib.Core.List.{List, [], _∷_, map, List·Memᴰ, List·Memᴰ·head, List·Memᴰ·tail}
+use mathlib.Core.List.{List, _∷_, map, List·Memᴰ, List·Memᴰ·head, List·Memᴰ·tail}
 use Rattle.tables.specs.Lists.{all, sum, among, orAt, lowest}
 use Rattle.tables.specs.Size.{numbersFit, statesFit, rightsFit, grammarFits, tableFits, signingFits, allFit}
 use Rattle.tables.specs.Grammar.{rightAt, grammar, inner, onRight, goodSides, goodRule, lowestRule}

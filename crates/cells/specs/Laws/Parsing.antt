@@ -7,8 +7,8 @@ use native.Mathlib.Omega.{arith}
 use lib.IntN.{ℤ, pos}
 use lib.ListN.{length, getD}
 use Rattle.cells.specs.declared.Way.{Way}
-use Rattle.cells.specs.declared.Read.the-variants.{Shift, Reduce, Accept}
-use Rattle.cells.specs.Read.{Kind, action, goto, cellsOf, isPos, readCell}
+use Rattle.cells.specs.declared.Read.the-variants.{Shift, Reduce}
+use Rattle.cells.specs.Read.{Kind, action, cellsOf, isPos, readCell}
 use Rattle.cells.specs.Parts.{wayCell}
 use Rattle.cells.specs.Size.{cellsFit}
 use Rattle.cells.specs.Laws.Size.{CellsFit, cells-fit}
@@ -47,14 +47,3 @@ module _ (rules : ℕ) (target : ℕ → ℕ) (base check : List ℤ) (x a : ℕ
   reduced {r} e =
       let p : Promise action (cellsOf rules target base check) a (Reduce r) = rw e at (read-promise (cellsOf rules target base check) a action x) in
       record { least = p .0; most = p .1 }
-
-  -- accept is on the end mark alone
-  pub accepted : readCell action (cellsOf rules target base check) x a ≡ Accept → a ≡ 0
-  accepted e = rw e at (read-promise (cellsOf rules target base check) a action x)
-
-  -- no goto is a rule
-  pub goto-reduces : {r : ℕ} → readCell goto (cellsOf rules target base check) x a ≡ Reduce r → ⊥
-  goto-reduces e = rw e at (read-promise (cellsOf rules target base check) a goto x)
-
-  pub goto-accepts : readCell goto (cellsOf rules target base check) x a ≡ Accept → ⊥
-  goto-accepts e = rw e at (read-promise (cellsOf rules target base check) a goto x)

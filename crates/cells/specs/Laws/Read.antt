@@ -5,7 +5,7 @@ use Prim.Native.Nat.{ℕ, zero, suc, _+_, _-_, _*_, _≤_, _<_}
 use native.Mathlib.Omega.{arith}
 use lib.Dec.{ltb, leb, eqb}
 use lib.IntN.{ℤ, pos, negsuc}
-use borrow.Author.Tests.{ltb-true, ltb-false, leb-true, eqb-true, eqb-false, lt-ltb}
+use borrow.Author.Tests.{ltb-true, ltb-false, leb-true, eqb-true, eqb-false}
 use Rattle.tables.specs.Laws.Tests.{clash, and-true}
 use Rattle.cells.specs.declared.Way.{Way}
 use Rattle.cells.specs.declared.Way.the-variants.{Direct, Pointer}
@@ -115,8 +115,3 @@ module _ (C : Cells) (a : ℕ) where
       go : (b : Bool) → Promise κ C a (cond b (readFrom κ C x a (baseFor κ C x)) Malformed)
       go true = from-promise κ x (baseFor κ C x)
       go false = tt
-
-  -- at a cell whose attached cell is inside and whose Base is not negative, the base decides
-  pub read-base : (κ : Kind) (x : ℕ) → suc x < C .W → isPos (C .base x) ≡ true → readCell κ C x a ≡ readFrom κ C x a (baseFor κ C x)
-  unfolding readCell
-  read-base κ x h e = rw (lt-ltb _ _ h, e)

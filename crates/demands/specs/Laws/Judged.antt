@@ -13,6 +13,7 @@ use Rattle.tables.specs.declared.Sizes.{Sizes}
 use Rattle.tables.specs.Said.{Said, OK}
 use Rattle.tables.specs.Grammar.{grammar}
 use Rattle.tables.specs.Laws.Judgement as tables
+use Rattle.tables.specs.Laws.Numbers.{judged-cases}
 use Rattle.cells.specs.Read.{twice}
 use Rattle.packing.specs.Job.{jobOf}
 use Rattle.packing.specs.Bench.{Bench}
@@ -27,7 +28,7 @@ use Rattle.machine.specs.Outcome.{Outcome, jobFits, job, judgedThen, plainParse
 use Rattle.soundness.specs.Verdict as verdict
 use Rattle.soundness.specs.Check as check
 use Rattle.soundness.specs.Outcome.{checked}
-use Rattle.soundness.specs.Laws.Outcome.{judged-cases, checked-refused, checked-exact, good-right}
+use Rattle.soundness.specs.Laws.Outcome.{checked-refused, checked-exact, good-right}
 use Rattle.demands.specs.Says.{SaysPack, SaysPlain, SaysCheck, judged}
 use Rattle.demands.specs.Laws.Runs.{parse-ends, ends-parse}
 use Rattle.demands.specs.Laws.Rows.{exactly}

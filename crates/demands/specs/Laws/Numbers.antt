@@ -7,10 +7,9 @@ use native.Mathlib.Omega.{arith}
 use lib.IntN.{ℤ}
 use Rattle.tables.specs.declared.Sizes.{Sizes}
 use Rattle.tables.specs.Said.{Said}
-use Rattle.tables.specs.Judgement.{judgement, grammarJudgement}
+use Rattle.tables.specs.Judgement.{grammarJudgement}
+use Rattle.tables.specs.Laws.Numbers.{judged-low}
 use Rattle.cells.specs.Asked.{readSaid}
-use Rattle.packing.specs.Bench.{Bench}
-use Rattle.packing.specs.Packing.{Result, packed}
 use Rattle.machine.specs.declared.Answer.{Answer}
 use Rattle.machine.specs.declared.Answer.the-variants.{Accepted, Token, Syntax, Underflow, NoGoto, Stack, Output, Moves, BadCell}
 use Rattle.machine.specs.Machine as machine
@@ -18,10 +17,9 @@ use Rattle.machine.specs.Outcome.{answerOf, Outcome, unchanged, leaves, plainPa
 use Rattle.machine.specs.Laws.Outcome.{plain-never-badcell}
 use Rattle.parser.specs.Outcome.{packedParse}
 use Rattle.soundness.specs.Outcome.{checked}
-use Rattle.soundness.specs.Laws.Outcome.{judged-cases}
-use Rattle.demands.specs.Says.{SaysRead, SaysParse, SaysPack, SaysPlain, SaysCheck}
+use Rattle.demands.specs.Says.{SaysRead, SaysParse, SaysPlain, SaysCheck}
 use Rattle.demands.specs.Laws.Cells.{grammar-cases, read-exactly, parse-exactly}
-use Rattle.demands.specs.Laws.Judged.{pack-exactly, plain-exactly, check-exactly}
+use Rattle.demands.specs.Laws.Judged.{plain-exactly, check-exactly}
 
 -- a run ends with 0 or 7 to 14
 ended-number : (a : Answer) (moves : ℕ) → (answerOf a moves .number ≡ 0) ⊎ ((7 ≤ answerOf a moves .number) × (answerOf a moves .number ≤ 14))
@@ -70,23 +68,11 @@ module _ (z : Sizes) (left lens rights : List ℕ) (base check : List ℤ) (toke
       by (SaysParse.ended f e r k) = left-number 2 r stack list
 
 module _ (z : Sizes) (states : ℕ) (left lens rights : List ℕ) (table : List ℤ) (srule sgoto : List ℕ) where
-  pub judge-number : judgement z states left lens rights table srule sgoto .number ≤ 4
-  judge-number = ⊎-elim (λ e. rw e (omega arith)) (λ h. h .1) (judged-cases z states left lens rights table srule sgoto)
-
-  pub pack-number : (B : Bench) → packed z states left lens rights table srule sgoto B .said .number ≤ 5
-  pack-number B = by (pack-exactly z states left lens rights table srule sgoto B _ .0 refl)
-    where
-      by : {o : Result} → SaysPack z states left lens rights table srule sgoto B o → o .said .number ≤ 5
-      by (SaysPack.size f) = omega arith
-      by (SaysPack.refused f n) = omega (arith, judge-number)
-      by (SaysPack.no-room f e q) = omega arith
-      by (SaysPack.placed f e A q) = omega arith
-
   pub check-number : (checked z states left lens rights table srule sgoto .number ≤ 4) ⊎ (checked z states left lens rights table srule sgoto .number ≡ 6)
   check-number = by (check-exactly z states left lens rights table srule sgoto _ .0 refl)
     where
       by : {s : Said} → SaysCheck z states left lens rights table srule sgoto s → (s .number ≤ 4) ⊎ (s .number ≡ 6)
-      by (SaysCheck.refused n) = inl judge-number
+      by (SaysCheck.refused n) = inl (judged-low z states left lens rights table srule sgoto)
       by (SaysCheck.sound e k) = inl (omega arith)
       by (SaysCheck.unsound p r e k) = inr refl
 
@@ -100,7 +86,7 @@ module _ (z : Sizes) (states : ℕ) (left lens rights : List ℕ) (table : List 
       where
         by : {o : Outcome} → SaysPlain z states left lens rights table srule sgoto tokens limit stack list o → Parsed 4 o
         by (SaysPlain.size f) = inl (omega arith)
-        by (SaysPlain.refused f n) = inl judge-number
+        by (SaysPlain.refused f n) = inl (judged-low z states left lens rights table srule sgoto)
         by (SaysPlain.ended f e r k) = left-number 4 r stack list
 
     -- never 14

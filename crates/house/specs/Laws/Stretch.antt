@@ -7,7 +7,7 @@ use Prim.Native.Nat.{ℕ}
 use lib.Dec.{eqb}
 use Rattle.tables.specs.Lists.{among}
 use Rattle.tables.specs.Laws.Tests.{clash}
-use Rattle.soundness.specs.Laws.Lists.{among-in}
+use Rattle.tables.specs.Laws.Members.{among-in}
 use Rattle.house.specs.Symbols.{VARIANT, CAPTURE}
 use Rattle.house.specs.Notation.{to-left, to-right, single, relay, Take, opposite, exact, nothing, Takes, one-take, and-then}
 use Rattle.house.specs.Notation.{Variant, five-fields, Book, one-variant, and-variant, Ends, at-end, at-next}

@@ -28,20 +28,6 @@ unfoldable pub steps : Grammar → Reads → Job → ℕ → Config → Step
 steps g m j zero c = on c
 steps g m j (suc k) c = andOn (steps g m j k) (move g m j c)
 
--- the limit is reached
-unfoldable pub stopped : Step → Result
-stopped (on c) = refused (Moves (c .place)) c
-stopped (halt r) = r
-
-pub run-steps : (g : Grammar) (m : Reads) (j : Job) (k : ℕ) (c : Config) → run g m j k c ≡ stopped (steps g m j k c)
-unfolding run steps stopped then andOn
-run-steps g m j zero c = refl
-run-steps g m j (suc k) c = go (move g m j c) (λ d. run-steps g m j k d)
-  where
-    go : (s : Step) → ((d : Config) → run g m j k d ≡ stopped (steps g m j k d)) → then (run g m j k) s ≡ stopped (andOn (steps g m j k) s)
-    go (on d) f = f d
-    go (halt r) f = refl
-
 -- ---- each move that goes on is counted once, accepting too, and a refused move is not
 
 -- accepting is a move, though it ends the run

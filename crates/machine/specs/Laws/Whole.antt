@@ -14,13 +14,12 @@ use Rattle.tables.specs.declared.Action.the-variants as action
 use Rattle.tables.specs.declared.Goto.{Goto}
 use Rattle.tables.specs.declared.Goto.the-variants as goto
 use Rattle.tables.specs.Grammar.{Grammar}
-use Rattle.tables.specs.Entry.{actionAt, gotoAt}
 use Rattle.tables.specs.Filled.{filledActionAt, filledGotoAt}
 use Rattle.machine.specs.declared.Current.{Current}
 use Rattle.machine.specs.declared.Current.the-variants.{Is, Wrong}
 use Rattle.machine.specs.declared.Answer.{Answer}
 use Rattle.machine.specs.declared.Answer.the-variants.{Accepted, Token, Syntax, Underflow, NoGoto, Stack, Output, Moves, BadCell}
-use Rattle.machine.specs.Reads.{Act, shift, reduce, accept, blank, malformed, Go, goes, nowhere, broken, Reads, actOf, goOf, plainReads, unsignedReads}
+use Rattle.machine.specs.Reads.{Act, shift, reduce, accept, blank, malformed, Go, goes, nowhere, broken, Reads, actOf, goOf, plainReads}
 use Rattle.machine.specs.Machine.{Job, Config, Result, Step, on, halt, refused, current, pushed, written}
 use Rattle.machine.specs.Machine.{afterShift, afterReduce, afterAccept, gone, popped, acted, looked, move, then, run, start, begun, parse}
 use Rattle.machine.specs.Laws.Simulation.{Carries, carryAnswer, parse-carried}
@@ -137,12 +136,4 @@ plain-whole z table srule sgoto =
     record {
       acts = λ s a. act-whole (filledActionAt z table srule s a);
       gos = λ s x. go-whole (filledGotoAt z table sgoto s x);
-    }
-
-pub unsigned-whole : (z : Sizes) (table : List ℤ) → Whole (unsignedReads z table)
-unfolding unsignedReads
-unsigned-whole z table =
-    record {
-      acts = λ s a. act-whole (actionAt z table s a);
-      gos = λ s x. go-whole (gotoAt z table s x);
     }

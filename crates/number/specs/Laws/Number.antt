@@ -1,21 +1,13 @@
--- Taking apart and making again lose nothing, and tell what stands at a place. Assumes nothing.
+-- What an i32 taken apart tells of it and of what stands at a place. Assumes nothing.
 use mathlib.Core.Path.{_≡_, ap, sym, _∙_}
 use mathlib.Core.List.{List}
 use Prim.Native.Nat.{ℕ, suc, _-_}
 use native.Mathlib.Omega.{arith}
-use borrow.Author.Tests.{le-leb}
 use lib.IntN.{ℤ, pos, negsuc}
 use lib.ListN.{getD}
-use mir.Syntax.{w32}
-use mir.Val.{SFits}
 use Rattle.number.specs.declared.Signed.{Signed}
 use Rattle.number.specs.declared.Signed.the-variants.{Plus, Minus}
-use Rattle.number.specs.Number.{signOf, numberOf}
-
--- every i32, the extremes too, is made again from its parts
-pub made-again : (v : ℤ) → SFits w32 v → numberOf (signOf v) ≡ v
-made-again (pos n) f = rw (le-leb n 2147483647 (omega (arith, f .sfits)))
-made-again (negsuc n) f = rw (le-leb (suc n) 2147483648 (omega (arith, f .sfits)))
+use Rattle.number.specs.Number.{signOf}
 
 -- a number, told from its parts
 plus : (v : ℤ) {n : ℕ} → signOf v ≡ Plus n → v ≡ pos n

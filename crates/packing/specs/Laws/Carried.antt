@@ -75,7 +75,7 @@ module _ (z : Sizes) (states : ℕ) (table : List ℤ) (srule sgoto : List ℕ) 
   unfolding filledActionAt actionAt
   packed-action s a ls la =
       carries (A .places) (readCell action (cellsOf (z .rules) off (A .bases) (A .checks)) (getD (A .places) s 0) a) (entryAt z table s a) (getD srule s 0)
-      (λ l. rule-at z states table srule sgoto v s ls l .0) (unfold jobOf in says action s a ls la)
+      (λ l. rule-at z states table srule sgoto v s l .0) (unfold jobOf in says action s a ls la)
 
   pub packed-goto : (s x : ℕ) → s < states → z .terminals ≤ x → x < z .symbols
       → CarriesGoto (A .places) (readCell goto (cellsOf (z .rules) off (A .bases) (A .checks)) (getD (A .places) s 0) x) (filledGotoAt z table sgoto s x)

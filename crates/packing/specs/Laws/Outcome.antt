@@ -1,13 +1,12 @@
 -- The outcome of packing in terms of the board: what is said, and the arrays. Assumes nothing.
 use mathlib.Core.Path.{_≡_, refl, sym, ap, _∙_}
-use mathlib.Core.Bool.{true, cond}
+use mathlib.Core.Bool.{true}
 use mathlib.Core.List.{List, [], _∷_}
 use Prim.Native.Nat.{ℕ, zero, suc, _-_, _≤_, _<_}
 use native.Mathlib.Omega.{arith}
 use native.Mathlib.Decide.{decLt}
-use lib.Dec.{eqb}
 use lib.IntN.{ℤ}
-use lib.ListN.{length, getD, List·getD-eq-default}
+use lib.ListN.{length, getD}
 use borrow.Author.Tests.{eq-eqb, ne-eqb}
 use Rattle.tables.specs.declared.Sizes.{Sizes}
 use Rattle.tables.specs.declared.Judged.{Judged}
@@ -20,7 +19,7 @@ use Rattle.packing.specs.declared.Packing.{Packing}
 use Rattle.packing.specs.declared.Packing.the-variants.{Packed, Refused, NoRoom}
 use Rattle.packing.specs.Job.{jobOf}
 use Rattle.packing.specs.Bench.{Bench}
-use Rattle.packing.specs.Packed.{bound, pack, benchOf}
+use Rattle.packing.specs.Packed.{pack, benchOf}
 use Rattle.packing.specs.Promises.{IsCount}
 use Rattle.packing.specs.Packing.{saidOf, countUpto, countOf, placedBy, arraysFit, packed}
 use Rattle.packing.specs.Laws.Answers.{job-machine}

@@ -1,34 +1,28 @@
 -- The parts of packing, put together. Assumes nothing.
-use mathlib.Core.Path.{_≡_, refl, sym, ap, _∙_}
-use mathlib.Core.Bool.{Bool, true, false, cond, _&&_}
+use mathlib.Core.Path.{_≡_, refl, sym, _∙_}
+use mathlib.Core.Bool.{true, false}
 use mathlib.Core.Option.{Option, none, some}
 use mathlib.Core.List.{List, [], _∷_}
-use Prim.Native.Nat.{ℕ, zero, suc, _+_, _-_, _≤_, _<_}
+use Prim.Native.Nat.{ℕ, suc, _-_, _<_}
 use native.Mathlib.Omega.{arith}
 use lib.Dec.{eqb}
 use lib.IntN.{ℤ}
 use lib.ListN.{length, getD}
 use borrow.Author.Tests.{eqb-true, eq-eqb, ne-eqb}
 use Rattle.tables.specs.declared.Sizes.{Sizes}
-use Rattle.tables.specs.declared.Lowest.{Lowest}
-use Rattle.tables.specs.declared.Lowest.the-variants.{At, Nowhere}
-use Rattle.tables.specs.Said.{Said, OK, SIZE, GRAMMAR, ENTRY, SIGN-STATE, SIGN-NONTERMINAL, NOROOM}
-use Rattle.tables.specs.Size.{isWithin, allFit}
-use Rattle.tables.specs.Grammar.{lowestRule}
-use Rattle.tables.specs.Entry.{lowestEntry}
-use Rattle.tables.specs.Signing.{lowestState, lowestTarget}
-use Rattle.tables.specs.Judgement.{named, signJudgement, judgement}
+use Rattle.tables.specs.Said.{Said, OK, SIZE, NOROOM}
+use Rattle.tables.specs.Judgement.{judgement}
 use Rattle.tables.specs.Laws.Tests.{and-true}
 use Rattle.tables.specs.Laws.Size.{all-fit}
+use Rattle.tables.specs.Laws.Numbers.{judged-zero}
 use Rattle.cells.specs.Read.{twice}
 use Rattle.cells.specs.Size.{cellsFit}
 use Rattle.cells.specs.Laws.Size.{cells-fit}
 use Rattle.packing.specs.Packed.{bound}
 use Rattle.packing.specs.Bench.{Bench, placementB}
 use Rattle.packing.specs.Job.{jobOf}
-use Rattle.packing.specs.Written.{bench}
 use Rattle.packing.specs.Turns.{Sized, Ready, wiped}
-use Rattle.packing.specs.Packing.{Result, result, arraysFit, countUpto, countOf, placedBy, judgedBy, packed}
+use Rattle.packing.specs.Packing.{result, arraysFit, countUpto, countOf, placedBy, packed}
 
 -- ---- the count
 
@@ -47,23 +41,11 @@ module _ (marks : List ℕ) (n : ℕ) (some : 0 < n) where
 
 -- ---- the judgement
 
-named-good : (l : Lowest) (name : ℕ → Said) (next : Said) → ((k : ℕ) → name k .number ≡ 0 → ⊥) → named l name next .number ≡ 0 → (l ≡ Nowhere) × (next .number ≡ 0)
-named-good (At k) name next n e = absurd (n k e)
-named-good Nowhere name next n e = (refl, e)
-
-size-good : (b : Bool) (q : Said) → cond b q SIZE .number ≡ 0 → (b ≡ true) × (q .number ≡ 0)
-size-good true q e = (refl, e)
-size-good false q e = absurd (omega arith)
-
 module _ (z : Sizes) (states : ℕ) (left lens rights : List ℕ) (table : List ℤ) (srule sgoto : List ℕ) where
   pub ready : judgement z states left lens rights table srule sgoto .number ≡ 0 → Ready z states table srule sgoto
-  unfolding judgement signJudgement
   ready e =
-      let a = size-good (allFit z states left lens rights table srule sgoto) _ e in
-      let b = named-good (lowestRule z left lens rights) (λ i. GRAMMAR (i + 1)) _ (λ k q. omega arith) (a .1) in
-      let d = named-good (lowestEntry z states table) ENTRY _ (λ k q. omega arith) (b .1) in
-      let s = named-good (lowestState z srule) SIGN-STATE _ (λ k q. omega arith) (d .1) in
-      record { sizes = all-fit z states left lens rights table srule sgoto (a .0) .signing; entries = d .0; rules = s .0 }
+      let u = judged-zero z states left lens rights table srule sgoto e in
+      record { sizes = all-fit z states left lens rights table srule sgoto (u .fit) .signing; entries = u .entries; rules = u .signatures }
 
   module _ (A : Bench) where
     pub refused-size : arraysFit states A ≡ false → result SIZE A ≡ packed z states left lens rights table srule sgoto A

@@ -13,11 +13,11 @@ use lib.IntN.{ℤ, pos, negsuc}
 use Rattle.number.specs.Number.{signOf, plusOf}
 use Rattle.number.specs.declared.Signed.the-variants.{Plus, Minus}
 use Rattle.cells.specs.Read.{Kind, action, goto, isNumber}
-use mathlib.Core.Bool.{cond}
 use Rattle.packing.specs.Bench.{Bench, freeB, baseOfB, usedB, firstB}
 use Rattle.packing.specs.Written.{asKind, cellOf, everyUpto, Marked, testB}
 use mathlib.Core.Bool.{and-false}
 use Rattle.packing.specs.Laws.Gather.{every-on, every-fails}
+use Rattle.packing.specs.Laws.Everywhere.{everywhere-same}
 
 -- every number from 1 to b fails the test
 pub record Least (f : ℕ → Bool) (fuel b : ℕ) : Type 0 where
@@ -76,13 +76,8 @@ module _ (A : Bench) (κ : Kind) (b n : ℕ) (some : 0 < n) where
 
 -- ---- the bases marked
 
-unmarked : (n t : ℕ) → getD (replicate n false) t false ≡ false
-unmarked zero t = refl
-unmarked (suc n) zero = refl
-unmarked (suc n) (suc t) = unmarked n t
-
 pub marked-none : (A : Bench) (κ : Kind) (n : ℕ) → Marked A κ 0 (replicate n false)
-marked-none A κ n = record { says = λ b h l. unmarked n b }
+marked-none A κ n = record { says = λ b h l. everywhere-same (λ x. x ≡ false) n false false refl refl b }
 
 plus-eq : (v : ℤ) (b : ℕ) → 1 ≤ b → isNumber v b ≡ eqb (plusOf v) b
 plus-eq (pos n) b h = refl

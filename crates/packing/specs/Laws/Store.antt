@@ -5,13 +5,11 @@ use mathlib.Core.Option.{some}
 use mathlib.Core.List.{List, []}
 use Prim.Native.Nat.{ℕ, zero, suc, _+_, _*_, _≤_, _<_}
 use native.Mathlib.Omega.{arith}
-use native.Mathlib.Decide.{decLt}
 use native.Mathlib.Numerals.{add-one}
-use lib.ListN.{getD, length, set}
-use lib.Seq.{getD-set-same, getD-set-other, set-out}
-use lib.Dec.{eqb, ltb}
+use lib.ListN.{getD, set}
+use lib.Dec.{ltb}
 use lib.IntN.{ℤ, pos}
-use borrow.Author.Tests.{eq-eqb, ne-eqb, eqb-true, eqb-false, le-leb, lt-ltb, le-ltb}
+use borrow.Author.Tests.{eq-eqb, ne-eqb, le-leb, lt-ltb, le-ltb}
 use Rattle.number.specs.Number.{numberOf}
 use Rattle.number.specs.declared.Signed.{Signed}
 use Rattle.number.specs.declared.Signed.the-variants.{Plus, Minus}
@@ -25,6 +23,7 @@ use Rattle.packing.specs.Job.{jobOf}
 use Rattle.packing.specs.Written.{bench, asKind, actOf, writtenAt, rowOf, bareJob, Low, Tame, TameRules, RuleLow, Settled, Housed, Filled}
 use mathlib.Core.Bool.{and-false}
 use Rattle.packing.specs.Laws.Written.{row-is, rule-low}
+use Rattle.packing.specs.Laws.Everywhere.{everywhere-set}
 
 -- ---- numbers that fit
 
@@ -47,12 +46,7 @@ module _ (z : Sizes) (srule : List ℕ) (t : Tame z srule) where
 -- ---- places
 
 pub low-set : (ps : List ℕ) (t c : ℕ) → c ≤ 4000000 → Low ps → Low (set ps t c)
-low-set ps t c h low u = go (eqb u t) refl (decLt t (length ps))
-  where
-    go : (b : Bool) → eqb u t ≡ b → Dec (t < length ps) → getD (set ps t c) u 0 ≤ 4000000
-    go false e d = rw (getD-set-other ps t u c 0 (eqb-false u t e)) (low u)
-    go true e (yes l) = let q : u ≡ t = eqb-true u t e in rw (q, getD-set-same ps t c 0 l) h
-    go true e (no l) = let m : length ps ≤ t = omega arith in rw (set-out ps t c m) (low u)
+low-set ps t c h low = everywhere-set (λ p. p ≤ 4000000) ps t c 0 h low
 
 -- ---- a state's two cells
 

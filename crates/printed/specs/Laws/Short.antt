@@ -16,12 +16,12 @@ use Rattle.sheets.specs.Outcome.{ReadOutcome}
 use Rattle.sheets.specs.Emit.{Emitted}
 use Rattle.sheets.specs.Laws.Entries.{line-length}
 use Rattle.packing.specs.Packing.{Result}
+use Rattle.packing.specs.Laws.Stored.{size}
+use Rattle.packing.specs.Laws.Numbers.{Held}
 use Rattle.texts.specs.Printed.{cellsKey, refusedKey, comma, dash, signed, at, cellLine, cellLines, cellsText, refusalText}
 use Rattle.texts.specs.Laws.Short.{decimal-short}
 use Rattle.printed.specs.Printed.{boardPacked, lent, packedText, signedText, boardRead, readText, printed}
-use Rattle.printed.specs.Laws.Numbers.{size}
-use Rattle.printed.specs.Laws.Board.{Held, board-held}
-use Rattle.printed.specs.Laws.Refusals.{packing-low, reading-low}
+use Rattle.printed.specs.Laws.Board.{reading-low, packing-low, board-held}
 
 -- ---- a refusal
 
@@ -73,11 +73,11 @@ module _ (base check : List ℤ) (b : (c : ℕ) → size (getD base c (pos 0)) �
 
 -- ---- all of it
 
-packed-short : (r : Result) → r .said .number ≤ 5 → (r .said .number ≡ 0 → Held r) → length (packedText r) ≤ 2048
+packed-short : (r : Result) → r .said .number ≤ 5 → (r .said .number ≡ 0 → Held 2000 64 r) → length (packedText r) ≤ 2048
 unfolding packedText
 packed-short r h g = by (eqb (r .said .number) 0) refl
   where
-    cells : Held r → length (cellsText (r .arrays .bases) (r .arrays .checks) (getD (r .said .values) 0 0)) ≤ 2048
+    cells : Held 2000 64 r → length (cellsText (r .arrays .bases) (r .arrays .checks) (getD (r .said .values) 0 0)) ≤ 2048
     cells d = cells-short (r .arrays .bases) (r .arrays .checks) (d .bases) (d .checks) (getD (r .said .values) 0 0) (d .count)
 
     by : (b : Bool) → eqb (r .said .number) 0 ≡ b

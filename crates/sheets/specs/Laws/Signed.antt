@@ -1,19 +1,15 @@
 -- What a signing is that fits and that SIGN does not refuse: its entries can be written, and that of T is 0. Assumes nothing.
-use mathlib.Core.Path.{_≡_, refl, ap, _∙_}
+use mathlib.Core.Path.{_≡_, ap, _∙_}
 use mathlib.Core.List.{List, [], _∷_, _++_}
 use Prim.Native.Nat.{ℕ, zero, suc, _+_, _-_, _≤_, _<_}
 use native.Mathlib.Omega.{arith}
 use lib.ListN.{length, drop, getD, length-drop}
 use lib.Seq.{getD-drop, drop-cons}
 use Rattle.tables.specs.declared.Sizes.{Sizes}
-use Rattle.tables.specs.declared.Lowest.{Lowest}
-use Rattle.tables.specs.declared.Lowest.the-variants.{At, Nowhere}
-use Rattle.tables.specs.Said.{OK, SIGN-STATE, SIGN-NONTERMINAL}
-use Rattle.tables.specs.Signing.{signing, goodSignature, goodTarget, lowestState, lowestTarget}
-use Rattle.tables.specs.Judgement.{named, signJudgement}
-use Rattle.tables.specs.Laws.Lowest.{nowhere-passed}
+use Rattle.tables.specs.Signing.{signing}
+use Rattle.tables.specs.Laws.Numbers.{sign-means}
 use Rattle.tables.specs.Laws.Size.{SigningFits, signing-fits}
-use Rattle.tables.specs.Laws.Signing.{RuleSigned, unsigned, by-rule, SigningOk, signing-ok}
+use Rattle.tables.specs.Laws.Signing.{RuleSigned, unsigned, by-rule, SigningOk}
 use Rattle.sheets.specs.Meaning.{Signed}
 use Rattle.sheets.specs.Laws.Told.{Small}
 
@@ -26,20 +22,8 @@ module _ (z : Sizes) (states : ℕ) (srule sgoto : List ℕ) (y : Signed z state
   pub lengths : SigningFits z states srule sgoto
   lengths = signing-fits z states srule sgoto (y .fits)
 
-  -- SIGN is said of some state or nonterminal, else all signatures are good
   signatures : SigningOk z states (signing z srule sgoto)
-  unfolding signJudgement lowestState lowestTarget
-  signatures = by (lowestState z srule) refl (lowestTarget states sgoto) refl (y .judged)
-    where
-      by : (l : Lowest) → lowestState z srule ≡ l → (m : Lowest) → lowestTarget states sgoto ≡ m
-          → named l SIGN-STATE (named m (λ i. SIGN-NONTERMINAL (z .terminals + i)) (OK [])) .number ≡ 0
-          → SigningOk z states (signing z srule sgoto)
-      by (At s) e m f g = absurd (let k : _≡_ {A = ℕ} 4 0 = g in omega arith)
-      by Nowhere e (At i) f g = absurd (let k : _≡_ {A = ℕ} 4 0 = g in omega arith)
-      by Nowhere e Nowhere f g =
-          signing-ok z states srule sgoto (omega (arith, lengths .count .least))
-          (nowhere-passed (λ s. goodSignature z (getD srule s 0)) (length srule) e)
-          (nowhere-passed (goodTarget states sgoto) (length sgoto) f)
+  signatures = sign-means z states srule sgoto (y .fits) (y .judged)
 
   -- the entry of nonterminal T + i
   target-at : (i : ℕ) → getD sgoto i 0 < states

@@ -1,19 +1,19 @@
 -- What the writer leaves, told by the judgement, by the length of the text and by the bytes that were put. Assumes nothing.
 use mathlib.Core.Path.{_≡_, refl, ap, _∙_}
-use mathlib.Core.Bool.{Bool, true, false, cond}
+use mathlib.Core.Bool.{Bool, true, false}
 use mathlib.Core.List.{List, [], _∷_, _++_}
 use Prim.Native.Nat.{ℕ, _+_, _≤_, _<_}
 use native.Mathlib.Omega.{arith}
-use lib.Dec.{eqb}
 use lib.ListN.{length, drop}
 use lib.Seq.{sets, sets-eq}
 use borrow.Author.Tests.{le-leb, lt-leb, ne-eqb}
 use Rattle.tables.specs.declared.Sizes.{Sizes}
-use Rattle.tables.specs.Said.{Said, OK, SIZE, TEXT}
+use Rattle.tables.specs.Said.{Said, OK, TEXT}
 use Rattle.tables.specs.Size.{signingFits}
-use Rattle.tables.specs.Judgement.{signJudgement, signingJudgement}
+use Rattle.tables.specs.Judgement.{signingJudgement}
+use Rattle.tables.specs.Laws.Numbers.{signing-size, signing-sign, signing-zero}
 use Rattle.sheets.specs.Sheet.{sheetText}
-use Rattle.sheets.specs.Outcome.{WriteOutcome, writeOutcome, putOr, judgedPut, sheetWrite}
+use Rattle.sheets.specs.Outcome.{writeOutcome, putOr, judgedPut, sheetWrite}
 use Rattle.sheets.specs.Meaning.{Signed}
 use Rattle.sheets.specs.Emit.{Emitted}
 
@@ -35,15 +35,13 @@ module _ (text buffer : List ℕ) {none last : List ℕ} {size : ℕ} (counted :
 module _ (z : Sizes) (states : ℕ) (srule sgoto : List ℕ) where
   -- SIZE and SIGN are one judgement
   write-judged : (buffer : List ℕ) → judgedPut (signingJudgement z states srule sgoto) (sheetText z states srule sgoto) buffer ≡ sheetWrite z states srule sgoto buffer
-  unfolding signingJudgement sheetWrite judgedPut
-  write-judged buffer = by (signingFits z states srule sgoto)
+  unfolding sheetWrite judgedPut
+  write-judged buffer = by (signingFits z states srule sgoto) refl
     where
-      judgedBy : Said → WriteOutcome
-      judgedBy q = cond (eqb (q .number) 0) (putOr (sheetText z states srule sgoto) buffer) (writeOutcome q buffer)
-
-      by : (b : Bool) → judgedBy (cond b (signJudgement z states srule sgoto) SIZE) ≡ cond b (judgedBy (signJudgement z states srule sgoto)) (writeOutcome SIZE buffer)
-      by true = refl
-      by false = refl
+      by : (b : Bool) → signingFits z states srule sgoto ≡ b
+          → judgedPut (signingJudgement z states srule sgoto) (sheetText z states srule sgoto) buffer ≡ sheetWrite z states srule sgoto buffer
+      by true f = rw (f, signing-sign z states srule sgoto f)
+      by false f = rw (f, signing-size z states srule sgoto f)
 
   -- what it refuses is said, and nothing is written
   pub refused-written : (q : Said) (buffer : List ℕ) → q ≡ signingJudgement z states srule sgoto → (q .number ≡ 0 → ⊥) → writeOutcome q buffer ≡ sheetWrite z states srule sgoto buffer
@@ -57,9 +55,6 @@ module _ (z : Sizes) (states : ℕ) (srule sgoto : List ℕ) where
 
   -- where it says OK, the sizes fit and SIGN refuses nothing
   pub judged-signed : signingJudgement z states srule sgoto ≡ OK [] → Signed z states srule sgoto
-  unfolding signingJudgement
-  judged-signed e = by (signingFits z states srule sgoto) refl e
-    where
-      by : (b : Bool) → signingFits z states srule sgoto ≡ b → cond b (signJudgement z states srule sgoto) SIZE ≡ OK [] → Signed z states srule sgoto
-      by true f q = record { fits = f; judged = ap (λ (s : Said). s .number) q }
-      by false f q = absurd (let k : _≡_ {A = ℕ} 1 0 = ap (λ (s : Said). s .number) q in omega arith)
+  judged-signed e =
+      let p = signing-zero z states srule sgoto (ap (λ (s : Said). s .number) e) in
+      record { fits = p .0; judged = p .1 }

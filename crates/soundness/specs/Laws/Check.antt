@@ -1,6 +1,6 @@
 -- What the check works out is the verdict. Assumes nothing.
 use mathlib.Core.Path.{_≡_, refl, sym, subst}
-use mathlib.Core.Logic.{_≢_, _⊎_, _↔_, ⊎-elim}
+use mathlib.Core.Logic.{_≢_, ⊎-elim}
 use mathlib.Core.Bool.{Bool, true, false}
 use mathlib.Core.List.{List, [], _∷_, reverse}
 use Prim.Native.Nat.{ℕ, zero, suc, _≤_, _<_}
@@ -13,16 +13,15 @@ use Rattle.tables.specs.Lists.{among}
 use Rattle.tables.specs.Grammar.{Grammar}
 use Rattle.tables.specs.Laws.Tests.{clash}
 use Rattle.tables.specs.Laws.Lowest.{Least, at-least, nowhere-passed}
+use Rattle.tables.specs.Laws.Members.{among-from, among-in}
 use Rattle.machine.specs.Reads.{Reads}
 use Rattle.soundness.specs.Path.{PathTo, Reach}
-use Rattle.soundness.specs.Verdict.{Reduces, Handle, Sound, Verdict, sound, unsound, IsVerdict}
+use Rattle.soundness.specs.Verdict.{Reduces, Handle, Verdict, sound, unsound, IsVerdict}
 use Rattle.soundness.specs.Check.{Arc, arcs, reached, spells, mayPrecede, keeps, rulesAt, ruleFault, stateFault, orFault, leastFault, verdictOf, verdictBy, verdictFrom, verdict}
 use Rattle.soundness.specs.Laws.Tail.{Failing}
-use Rattle.soundness.specs.Laws.Lists.{among-from, among-in}
 use Rattle.soundness.specs.Laws.Reached.{Bounded, reach-below, reached-path, path-reached, Live, live}
 use Rattle.soundness.specs.Laws.Spells.{Says, spells-says}
 use Rattle.soundness.specs.Laws.Handle.{Precedes, tail-handle, handle-tail, may-precede, may-not-precede, rules-from, rules-in}
-use Rattle.soundness.specs.Laws.Verdict.{verdict-unique}
 
 -- ---- the least fault
 
@@ -163,9 +162,3 @@ module _ (g : Grammar) (u v : Reads) (states : ℕ) (bounded : Bounded g u state
   pub verdict-right : IsVerdict g u v (verdict g u v states)
   unfolding verdict verdictFrom verdictBy verdictOf
   verdict-right = judged (live bounded)
-
-  pub sound-exact : (verdict g u v states ≡ sound) ↔ Sound g u v
-  sound-exact = (
-    λ e. subst (λ (w : Verdict). IsVerdict g u v w) e verdict-right,
-    λ h. verdict-unique g u v (verdict g u v states) sound verdict-right h,
-  )

@@ -13,6 +13,7 @@ use Rattle.tables.specs.declared.Sizes.{Sizes}
 use Rattle.tables.specs.Said.{Said, OK, SIZE}
 use Rattle.tables.specs.Grammar.{Grammar, grammar}
 use Rattle.tables.specs.Judgement.{judgement}
+use Rattle.tables.specs.Laws.Numbers.{judged-cases}
 use Rattle.machine.specs.declared.Answer.{Answer}
 use Rattle.machine.specs.declared.Answer.the-variants.{Accepted, Token, Syntax, Underflow, NoGoto, Stack, Output, Moves, BadCell}
 use Rattle.machine.specs.Reads.{Reads, plainReads, unsignedReads}
@@ -22,7 +23,7 @@ use Rattle.soundness.specs.Derivation.{Terminals, Rightmost}
 use Rattle.soundness.specs.Verdict.{Sound, sound}
 use Rattle.soundness.specs.Outcome.{checked}
 use Rattle.soundness.specs.Laws.Fills.{plain-fills}
-use Rattle.soundness.specs.Laws.Outcome.{judged-cases, checked-exact, good-proper}
+use Rattle.soundness.specs.Laws.Outcome.{checked-exact, good-proper}
 use Rattle.soundness.specs.Laws.Derives.{Right, parse-right}
 use Rattle.soundness.specs.Laws.Keeps.{parse-keeps}
 use Rattle.soundness.specs.Laws.Unsigned.{unsigned-reads}

@@ -1,15 +1,13 @@
--- Laws of those that pass a test, of lists joined, and of tests over members. Assumes nothing.
+-- Laws of those that pass a test, and of lists joined. Assumes nothing.
 use mathlib.Core.Path.{_≡_, refl, ap, sym, _∙_, subst}
 use mathlib.Core.Logic.{_≢_, _⊎_, inl, inr}
-use mathlib.Core.Bool.{Bool, true, false, _&&_, _||_}
+use mathlib.Core.Bool.{Bool, true, false}
 use mathlib.Core.List.{List, [], _∷_, _++_, List·Memᴰ, List·Memᴰ·head, List·Memᴰ·tail, List·Memᴰ·append-cases, Memᴰ·append-left, Memᴰ·append-right}
 use Prim.Native.Nat.{ℕ, zero, suc, _≤_, _<_}
 use native.Mathlib.Omega.{arith}
 use lib.Dec.{eqb}
 use lib.ListN.{length}
-use borrow.Author.Tests.{eq-eqb, eqb-true, eqb-false}
-use Rattle.tables.specs.Lists.{all, among}
-use Rattle.tables.specs.Laws.Tests.{clash, and-true, or-true}
+use borrow.Author.Tests.{eqb-true, eqb-false}
 use Rattle.soundness.specs.Lists.{kept, those, collect}
 
 module _ {A : Type 0} where
@@ -86,40 +84,3 @@ module _ {A : Type 0} where
           → (i : ℕ) × (i < suc n) × List·Memᴰ y (f i)
       by (inl k) next = (n, omega arith, k)
       by (inr k) next = let w : (i : ℕ) × (i < n) × List·Memᴰ y (f i) = next k in (w .0, omega (arith, w .1), w .2)
-
--- ---- among and all, by members
-
-pub among-from : (x : ℕ) (l : List ℕ) → among x l ≡ true → List·Memᴰ x l
-unfolding among
-among-from x [] e = absurd (clash e refl)
-among-from x (y ∷ l) e = by (or-true (eqb x y) e) (among-from x l)
-  where
-    by : (eqb x y ≡ true) ⊎ (among x l ≡ true) → (among x l ≡ true → List·Memᴰ x l) → List·Memᴰ x (y ∷ l)
-    by (inl q) next = List·Memᴰ·head (eqb-true x y q)
-    by (inr q) next = List·Memᴰ·tail (next q)
-
-or-right : (b : Bool) {d : Bool} → d ≡ true → (b || d) ≡ true
-or-right true h = refl
-or-right false h = h
-
-pub among-in : (x : ℕ) (l : List ℕ) → List·Memᴰ x l → among x l ≡ true
-unfolding among
-among-in x (y ∷ l) (List·Memᴰ·head e) = rw (eq-eqb x y e)
-among-in x (y ∷ l) (List·Memᴰ·tail m) = or-right (eqb x y) (among-in x l m)
-
-module _ (test : ℕ → Bool) where
-  pub all-of : (l : List ℕ) → all test l ≡ true → (x : ℕ) → List·Memᴰ x l → test x ≡ true
-  unfolding all
-  all-of (y ∷ l) e x (List·Memᴰ·head q) = ap test q ∙ and-true (test y) e .0
-  all-of (y ∷ l) e x (List·Memᴰ·tail m) = all-of l (and-true (test y) e .1) x m
-
-  -- one that does not pass
-  pub not-all : (l : List ℕ) → all test l ≡ false → (x : ℕ) × List·Memᴰ x l × (test x ≡ false)
-  unfolding all
-  not-all [] e = absurd (clash refl e)
-  not-all (y ∷ l) e = by (test y) refl e (not-all l)
-    where
-      by : (b : Bool) → test y ≡ b → (b && all test l) ≡ false → (all test l ≡ false → (x : ℕ) × List·Memᴰ x l × (test x ≡ false))
-          → (x : ℕ) × List·Memᴰ x (y ∷ l) × (test x ≡ false)
-      by true q h next = let w : (x : ℕ) × List·Memᴰ x l × (test x ≡ false) = next h in (w .0, List·Memᴰ·tail (w .1), w .2)
-      by false q h next = (y, List·Memᴰ·head refl, q)

@@ -12,6 +12,7 @@ use Rattle.tables.specs.Said.{Said, OK, UNSOUND}
 use Rattle.tables.specs.Grammar.{Grammar, grammar}
 use Rattle.tables.specs.Judgement.{judgement}
 use Rattle.tables.specs.Laws.Judgement as tables
+use Rattle.tables.specs.Laws.Numbers.{judged-cases}
 use Rattle.machine.specs.Reads.{Reads, plainReads, unsignedReads}
 use Rattle.soundness.specs.Path.{PathTo}
 use Rattle.soundness.specs.Verdict.{Reduces, Handle, Verdict, sound, unsound, IsVerdict}
@@ -52,18 +53,6 @@ module _ (z : Sizes) (states : ℕ) (left lens rights : List ℕ) (table : List 
   abbrev v : Reads
   v = plainReads z table srule sgoto
 
-  good-or-not : {s : Said} → tables.Verdict z states left lens rights table srule sgoto s → (s ≡ OK []) ⊎ ((1 ≤ s .number) × (s .number ≤ 4))
-  good-or-not (tables.sizes f) = inr (omega arith, omega arith)
-  good-or-not (tables.rule i f l) = inr (omega arith, omega arith)
-  good-or-not (tables.entry i f p l) = inr (omega arith, omega arith)
-  good-or-not (tables.state i f p q l) = inr (omega arith, omega arith)
-  good-or-not (tables.target i f p q r l) = inr (omega arith, omega arith)
-  good-or-not (tables.good f p q r t) = inl refl
-
-  -- the judgement refuses nothing, or says a number from 1 to 4
-  pub judged-cases : (judged ≡ OK []) ⊎ ((1 ≤ judged .number) × (judged .number ≤ 4))
-  judged-cases = good-or-not (tables.judged z states left lens rights table srule sgoto)
-
   -- a refusal of 1 to 4 is said back
   pub checked-refused : judged .number ≢ 0 → said ≡ judged
   unfolding checked judgedThen
@@ -84,7 +73,7 @@ module _ (z : Sizes) (states : ℕ) (left lens rights : List ℕ) (table : List 
 
   -- the check says a verdict exactly where the judgement refuses nothing and it is the verdict
   pub checked-exact : (w : Verdict) → (said ≡ verdictSaid w) ↔ ((judged ≡ OK []) × IsVerdict g u v w)
-  checked-exact w = (λ e. from e judged-cases, λ k. good-said (k .0) ∙ ap verdictSaid (verdict-unique g u v (verdict g u v states) w (good-right (k .0)) (k .1)))
+  checked-exact w = (λ e. from e (judged-cases z states left lens rights table srule sgoto), λ k. good-said (k .0) ∙ ap verdictSaid (verdict-unique g u v (verdict g u v states) w (good-right (k .0)) (k .1)))
     where
       from : said ≡ verdictSaid w → (judged ≡ OK []) ⊎ ((1 ≤ judged .number) × (judged .number ≤ 4)) → (judged ≡ OK []) × IsVerdict g u v w
       from e (inl good) =

@@ -11,11 +11,12 @@ use borrow.Author.Tests.{ltb-true, ltb-false, lt-ltb, le-ltb, eqb-true, eq-eqb}
 use Rattle.tables.specs.Lists.{among}
 use Rattle.tables.specs.Grammar.{Grammar}
 use Rattle.tables.specs.Laws.Tests.{and-true}
+use Rattle.tables.specs.Laws.Members.{among-from, among-in}
 use Rattle.machine.specs.Reads.{Act, shift, Go, goes, Reads}
 use Rattle.soundness.specs.Path.{Edge, by-shift, by-goto, here, along, Reach}
 use Rattle.soundness.specs.Lists.{those, collect}
 use Rattle.soundness.specs.Check.{Arc, arc, shiftsTo, goesTo, leadsTo, arcsFrom, arcs, grown, grow, reached}
-use Rattle.soundness.specs.Laws.Lists.{those-from, those-in, those-fewer, collect-in, collect-from, among-from, among-in}
+use Rattle.soundness.specs.Laws.Lists.{those-from, those-in, those-fewer, collect-in, collect-from}
 use Rattle.soundness.specs.Laws.Column.{closed-all}
 
 -- ---- the arcs

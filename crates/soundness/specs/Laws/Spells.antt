@@ -8,12 +8,13 @@ use borrow.Author.Tests.{eqb-true, eqb-false}
 use Rattle.tables.specs.Lists.{all, among}
 use Rattle.tables.specs.Grammar.{Grammar}
 use Rattle.tables.specs.Laws.Tests.{clash}
+use Rattle.tables.specs.Laws.Members.{among-from, among-in, all-of, not-all}
 use Rattle.machine.specs.Reads.{Reads}
 use Rattle.soundness.specs.Path.{Edge, Reach}
 use Rattle.soundness.specs.Check.{Arc, arc, into, before, spelling, spells}
 use Rattle.soundness.specs.Laws.Tail.{Failing}
 use Rattle.soundness.specs.Laws.Column.{AllTails, Column, column-step, column-pass, column-end, column-short, column-other}
-use Rattle.soundness.specs.Laws.Lists.{those-from, those-in, among-from, among-in, all-of, not-all}
+use Rattle.soundness.specs.Laws.Lists.{those-from, those-in}
 use Rattle.soundness.specs.Laws.Reached.{Live}
 
 -- the answer true means that every path keeps to it, the answer false that one does not

@@ -3,7 +3,6 @@ use mathlib.Core.Path.{_≡_, refl}
 use mathlib.Core.List.{List, [], _∷_, _++_}
 use Prim.Native.Nat.{ℕ}
 use lib.ListN.{length, drop}
-use native.Mathlib.Omega.{arith}
 use Rattle.tables.specs.Grammar.{Grammar}
 use Rattle.machine.specs.Reads.{Reads}
 use Rattle.soundness.specs.Path.{PathTo}
@@ -32,9 +31,6 @@ pub tail-cons⁻ : (F : ℕ → Type 0) (x y : ℕ) (ys : List ℕ) (s p : ℕ) 
 tail-cons⁻ F x y ys s p ss xs t =
     let q : x ∷ xs ≡ y ∷ (ys ++ t .rest) = t .spelt in
     (cc, record { rest = t .rest; spelt = cc; before = t .before; earlier = t .earlier; left-there = t .left-there; holds = t .holds })
-
-tail-here : (F : ℕ → Type 0) (y : ℕ) (ys : List ℕ) (s : ℕ) → Tail F (y ∷ ys) s [] [] → ⊥
-tail-here F y ys s t = let q : [] ≡ y ∷ (ys ++ t .rest) = t .spelt in let z : _≡_ {A = ℕ} 0 1 = cc in omega arith
 
 -- a path into s that fails
 pub record Failing (g : Grammar) (m : Reads) (F : ℕ → Type 0) (ys : List ℕ) (s : ℕ) : Type 0 where

@@ -1,18 +1,17 @@
 -- What an entry is where ENTRY does not name it, and what a table is where ENTRY is not said. Assumes nothing.
-use mathlib.Core.Path.{_≡_, refl, sym, ap, _∙_, subst}
-use mathlib.Core.Logic.{_≢_, _⊎_, inl, inr, ⊎-elim}
-use mathlib.Core.Bool.{Bool, true, false, not, cond, _&&_, _||_}
+use mathlib.Core.Path.{_≡_, refl, _∙_}
+use mathlib.Core.Logic.{_≢_}
+use mathlib.Core.Bool.{Bool, true, false, not}
 use mathlib.Core.List.{List}
 use Prim.Native.Nat.{ℕ, zero, suc, _+_, _*_, _%_, _/_, _≤_, _<_}
 use native.Mathlib.Nat.{mul-add-mod-self-right, mod-eq-of-lt, mod-lt, mul-le-mul-right, div-add-mod', div-lt-iff-lt-mul}
 use native.Mathlib.Omega.{arith}
-use lib.Dec.{ltb, leb, eqb, eqb·suc-zero}
+use lib.Dec.{ltb, eqb, eqb·suc-zero}
 use lib.IntN.{ℤ, pos, negsuc}
 use lib.ListN.{length, getD}
 use borrow.Author.Tests.{lt-ltb, le-ltb, ltb-true, ltb-false, le-leb, leb-true, eq-eqb, ne-eqb, eqb-true, eqb-false, not-true}
-use Rattle.number.specs.Number.{signOf}
 use Rattle.tables.specs.declared.Sizes.{Sizes}
-use Rattle.tables.specs.Entry.{entryAt, goodAction, goodGoto, goodSigned, goodEntry}
+use Rattle.tables.specs.Entry.{entryAt, goodSigned, goodEntry}
 use Rattle.tables.specs.Laws.Tests.{clash, and-true}
 use Rattle.tables.specs.Laws.Lowest.{Passed}
 

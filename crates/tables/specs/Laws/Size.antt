@@ -1,6 +1,6 @@
 -- What the numbers and lengths are where SIZE is not said. Assumes nothing.
-use mathlib.Core.Path.{_≡_, refl}
-use mathlib.Core.Bool.{true, _&&_}
+use mathlib.Core.Path.{_≡_}
+use mathlib.Core.Bool.{true}
 use mathlib.Core.List.{List}
 use Prim.Native.Nat.{ℕ, _+_, _-_, _*_, _≤_, _<_}
 use lib.Dec.{leb, eqb}
@@ -11,7 +11,7 @@ use Rattle.tables.specs.declared.Sizes.{Sizes}
 use Rattle.tables.specs.Lists.{all, sum}
 use Rattle.tables.specs.Size.{isWithin, numbersFit, statesFit, rightsFit, grammarFits, tableFits, signingFits, allFit}
 use Rattle.tables.specs.Laws.Tests.{and-true}
-use Rattle.tables.specs.Laws.Lists.{all-at, all-in}
+use Rattle.tables.specs.Laws.Lists.{all-at}
 
 pub record Within (low high n : ℕ) : Type 0 where
   pub least : low ≤ n
@@ -66,17 +66,6 @@ module _ (z : Sizes) (left lens rights : List ℕ) where
         total = eqb-true _ _ (s .1);
       }
 
-  pub fit-grammar : GrammarFits z left lens rights → grammarFits z left lens rights ≡ true
-  unfolding grammarFits rightsFit
-  fit-grammar k =
-      rw (
-        fit-numbers z (k .numbers),
-        eq-eqb _ _ (k .lefts),
-        eq-eqb _ _ (k .lengths),
-        all-in (λ n. leb n 64) lens (λ i h. le-leb _ _ (k .short i h)),
-      )
-      (eq-eqb _ _ (k .total))
-
 -- the bounds of L, and the lengths of a signing's arrays
 pub record SigningFits (z : Sizes) (states : ℕ) (srule sgoto : List ℕ) : Type 0 where
   pub numbers : NumbersFit z
@@ -107,10 +96,6 @@ module _ (z : Sizes) (states : ℕ) (table : List ℤ) where
   pub table-fits : tableFits z states table ≡ true → length table ≡ states * z .symbols
   unfolding tableFits
   table-fits e = eqb-true _ _ e
-
-  pub fit-table : length table ≡ states * z .symbols → tableFits z states table ≡ true
-  unfolding tableFits
-  fit-table e = eq-eqb _ _ e
 
 -- grammar, table and signing together
 pub record AllFit (z : Sizes) (states : ℕ) (left lens rights : List ℕ) (table : List ℤ) (srule sgoto : List ℕ) : Type 0 where

@@ -1,7 +1,7 @@
--- What tests joined by 'and', 'or' and 'not' tell. Assumes nothing.
+-- What tests joined by 'and' and 'or' tell. Assumes nothing.
 use mathlib.Core.Path.{_≡_, refl}
 use mathlib.Core.Logic.{_⊎_, inl, inr}
-use mathlib.Core.Bool.{Bool, true, false, not, _&&_, _||_}
+use mathlib.Core.Bool.{Bool, true, false, _&&_, _||_}
 use Prim.Native.Nat.{ℕ}
 use native.Mathlib.Omega.{arith}
 

@@ -1,8 +1,7 @@
-use mathlib.Core.Path.{_≡_, refl, sym, _∙_}
+use mathlib.Core.Path.{_≡_, sym, _∙_}
 use mathlib.Core.Bool.{Bool, true, false}
 use mathlib.Core.List.{List}
 use Prim.Native.Nat.{ℕ, _+_, _-_, _≤_, _<_}
-use native.Mathlib.Numerals.{add-one}
 use native.Mathlib.Omega.{arith}
 use lib.Dec.{eqb}
 use lib.ListN.{length, getD, take, drop}
@@ -10,9 +9,8 @@ use borrow.Author.Needs.{needs}
 use borrow.Author.Tests.{not-true, not-false}
 use Rattle.tables.specs.declared.Sizes.{Sizes}
 use Rattle.tables.specs.declared.Lowest.the-variants.{At, Nowhere}
-use Rattle.tables.specs.Lists.{sum}
-use Rattle.tables.specs.Grammar.{rightAt, goodSides, goodRule, lowestRule}
-use Rattle.tables.specs.Laws.Lists.{sum-more, sum-part, sum-bound}
+use Rattle.tables.specs.Grammar.{goodSides, goodRule, lowestRule}
+use Rattle.tables.specs.Laws.Begins.{Begins, begins-first, begins-part, begins-next, ends-inside, ends-small}
 use Rattle.tables.specs.Laws.Lowest.{Walk, walk-begin, walk-on, walk-bad, walk-end}
 use Rattle.tables.specs.Laws.Size.{GrammarFits, grammar-fits}
 use Rattle.judgement.proofs.grammar.lowest_rule.Statement.{statement}
@@ -20,37 +18,25 @@ use Rattle.judgement.proofs.grammar.lowest_rule.Tie as tie
 
 -- the right side of rule i + 1 begins at `from`, and the rules before it are good
 record Passing (z : Sizes) (left lens rights : List ℕ) (i from : ℕ) : Type 0 where
-  pub begins : sum (take i lens) ≡ from
+  pub begins : Begins lens i from
   pub walk : Walk (goodRule z left lens rights) (z .rules) i
 
 module _ {z : Sizes} {left lens rights : List ℕ} (fit : GrammarFits z left lens rights) where
   begin : Passing z left lens rights 0 0
-  unfolding sum
-  begin = record { begins = refl; walk = walk-begin }
+  begin = record { begins = begins-first lens; walk = walk-begin }
 
   module _ {i from : ℕ} (inv : Passing z left lens rights i from) (h : i < length left) where
     is-rule : i < length lens
     is-rule = omega (arith, fit .lefts, fit .lengths)
 
-    ends : sum (take (i + 1) lens) ≡ from + getD lens i 0
-    ends = rw (add-one i, sum-more lens i is-rule, inv .begins)
-
-    inside : from + getD lens i 0 ≤ length rights
-    inside = omega (arith, ends, sum-part lens (i + 1), fit .total)
-
-    small : from + getD lens i 0 ≤ 65536
-    small = omega (arith, sum-bound lens (fit .short), ends, sum-part lens (i + 1), fit .lengths, fit .numbers .rules .most)
-
     -- what the code's test of the sides says
     told : (b : Bool) → b ≡ goodSides z (eqb i 0) (getD left i 0) (take (from + getD lens i 0 - from) (drop from rights))
         → goodRule z left lens rights i ≡ b
-    unfolding goodRule rightAt
-    told b e =
-        let s : from + getD lens i 0 - from ≡ getD lens i 0 = omega arith in
-        rw (inv .begins) (sym (rw s at e))
+    unfolding goodRule
+    told b e = sym (rw (begins-part lens rights (inv .begins)) at e)
 
     next : goodRule z left lens rights i ≡ true → Passing z left lens rights (i + 1) (from + getD lens i 0)
-    next g = record { begins = ends; walk = walk-on (inv .walk) (omega (arith, fit .lefts)) g }
+    next g = record { begins = begins-next fit (inv .begins) h; walk = walk-on (inv .walk) (omega (arith, fit .lefts)) g }
 
     bad : goodRule z left lens rights i ≡ false → At i ≡ lowestRule z left lens rights
     unfolding lowestRule
@@ -79,14 +65,14 @@ cast-to : tie.Need-cast-to Inv-loop μ-loop
 cast-to c =
     let i = c .before .before .loop .inv in
     let r : c .before .before .loop .from + getD (c .before .before .before .before .before .before .args .lens .now) (c .before .before .loop .i) 0 ≤ 65536 =
-    small (grammar-fits _ _ _ _ (c .before .before .before .before .before .before .pre)) i (c .before .loop-test .taken) in
+    ends-small (grammar-fits _ _ _ _ (c .before .before .before .before .before .before .pre)) (i .begins) (c .before .loop-test .taken) in
     record { fits = omega arith }
 
 add-to : tie.Need-add-to Inv-loop μ-loop
 add-to c =
     let i = c .before .before .loop .inv in
     let r : c .before .before .loop .from + getD (c .before .before .before .before .before .before .args .lens .now) (c .before .before .loop .i) 0 ≤ 65536 =
-    small (grammar-fits _ _ _ _ (c .before .before .before .before .before .before .pre)) i (c .before .loop-test .taken) in
+    ends-small (grammar-fits _ _ _ _ (c .before .before .before .before .before .before .pre)) (i .begins) (c .before .loop-test .taken) in
     record { fits = omega arith }
 
 mul-sides-good : tie.Need-mul-sides-good Inv-loop μ-loop
@@ -98,7 +84,7 @@ shared-slice-read-sides-good c = c .before .before .loop-test .taken
 mul-sides-good-2 : tie.Need-mul-sides-good-2 Inv-loop μ-loop
 mul-sides-good-2 c =
     let r : c .before .before .before .loop .from + getD (c .before .before .before .before .before .before .before .args .lens .now) (c .before .before .before .loop .i) 0 ≤ 65536 =
-    small (grammar-fits _ _ _ _ (c .before .before .before .before .before .before .before .pre)) (c .before .before .before .loop .inv) (c .before .before .loop-test .taken) in
+    ends-small (grammar-fits _ _ _ _ (c .before .before .before .before .before .before .before .pre)) (c .before .before .before .loop .inv .begins) (c .before .before .loop-test .taken) in
     record { fits = omega arith }
 
 sub-sides-good : tie.Need-sub-sides-good Inv-loop μ-loop
@@ -110,7 +96,7 @@ part-sides-good-start c = search needs
 part-sides-good-end : tie.Need-part-sides-good-end Inv-loop μ-loop
 part-sides-good-end c =
     let r : c .before .before .before .loop .from + getD (c .before .before .before .before .before .before .before .args .lens .now) (c .before .before .before .loop .i) 0 ≤ length (c .before .before .before .before .before .before .before .args .rights .now) =
-    inside (grammar-fits _ _ _ _ (c .before .before .before .before .before .before .before .pre)) (c .before .before .before .loop .inv) (c .before .before .loop-test .taken) in
+    ends-inside (grammar-fits _ _ _ _ (c .before .before .before .before .before .before .before .pre)) (c .before .before .before .loop .inv .begins) (c .before .before .loop-test .taken) in
     search needs
 
 sides-good-requires : tie.Need-sides-good-requires Inv-loop μ-loop

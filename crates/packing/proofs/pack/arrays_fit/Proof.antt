@@ -1,6 +1,6 @@
 use Rattle.packing.specs.Packing.{arraysFit}
-use mathlib.Core.Path.{_≡_, refl, ap, sym, _∙_}
-use borrow.Author.Tests.{lt-ltb, le-ltb, le-leb, lt-leb, eq-eqb, ne-eqb, not-true, not-false}
+use mathlib.Core.Path.{sym, _∙_}
+use borrow.Author.Tests.{eq-eqb, ne-eqb}
 use borrow.Author.Needs.{needs}
 use Rattle.packing.proofs.pack.arrays_fit.Statement.{statement}
 use Rattle.packing.proofs.pack.arrays_fit.Tie as tie

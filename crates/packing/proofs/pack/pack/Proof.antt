@@ -3,7 +3,6 @@ use borrow.Author.Tests.{eqb-true}
 use borrow.Author.Needs.{needs}
 use Rattle.tables.specs.Said.{Said}
 use Rattle.packing.specs.Laws.Packing.{ready, sized, refused-size, refused-judged, accepted}
-use Rattle.packing.specs.Packing.{result}
 use Rattle.packing.specs.Written.{bench}
 use Rattle.packing.proofs.pack.pack.Statement.{statement}
 use Rattle.packing.proofs.pack.pack.Tie as tie

@@ -1,9 +1,7 @@
-use Prim.Native.Nat.{_*_, _≤_}
-use native.Mathlib.Omega.{arith}
 use borrow.Author.Needs.{needs}
 use Rattle.tables.specs.Entry.{entryAt}
+use Rattle.tables.specs.Laws.Place.{row-fits, place-fits}
 use Rattle.packing.specs.Written.{gotoEntry}
-use Rattle.packing.proofs.Product.{product}
 use Rattle.packing.proofs.row.goto_entry.Statement.{statement}
 use Rattle.packing.proofs.row.goto_entry.Tie as tie
 
@@ -11,14 +9,10 @@ cast-at-i32 : tie.Need-cast-at-i32
 cast-at-i32 c = search needs
 
 mul-at-i32 : tie.Need-mul-at-i32
-mul-at-i32 c =
-    let p : c .before .before .args .s * c .before .before .args .z .symbols ≤ 4294967295 * 4294967295 = product (search needs) (search needs) in
-    record { fits = omega arith }
+mul-at-i32 c = record { fits = row-fits _ _ (search needs) (search needs) }
 
 add-at-i32 : tie.Need-add-at-i32
-add-at-i32 c =
-    let p : c .before .before .args .s * c .before .before .args .z .symbols ≤ 4294967295 * 4294967295 = product (search needs) (search needs) in
-    record { fits = omega arith }
+add-at-i32 c = record { fits = place-fits _ _ _ (search needs) (search needs) (search needs) }
 
 at-i32-requires : tie.Need-at-i32-requires
 at-i32-requires c κs = search needs

@@ -10,9 +10,8 @@ use lib.ListN.{length, getD, take, drop}
 use borrow.Author.Needs.{needs}
 use Rattle.tables.specs.declared.Sizes.{Sizes}
 use Rattle.tables.specs.declared.Lowest.the-variants.{At, Nowhere}
-use Rattle.tables.specs.Lists.{sum}
-use Rattle.tables.specs.Grammar.{grammar, rightAt}
-use Rattle.tables.specs.Laws.Lists.{sum-more, sum-part, sum-bound}
+use Rattle.tables.specs.Grammar.{grammar}
+use Rattle.tables.specs.Laws.Begins.{Begins, begins-first, begins-part, begins-next, ends-inside, ends-small}
 use Rattle.machine.specs.Reads.{unsignedReads}
 use Rattle.soundness.specs.Verdict.{Reduces}
 use Rattle.soundness.specs.Laws.Edges.{reduces-any, bare-T}
@@ -24,35 +23,19 @@ use Rattle.soundness.proofs.row.lowest_failing.Tie as tie
 
 -- the right side of rule i + 1 begins at `from`, and the rules up to i are kept
 record Passing (z : Sizes) (left lens rights : List ℕ) (table : List ℤ) (srule : List ℕ) (s i from : ℕ) : Type 0 where
-  pub begins : sum (take i lens) ≡ from
+  pub begins : Begins lens i from
   pub kept : (q : ℕ) → q ≤ i → Kept (grammar z left lens rights) (unsignedReads z table) (filledRows z table srule) s q
 
 module _ {z : Sizes} {states : ℕ} {left lens rights : List ℕ} {table : List ℤ} {srule : List ℕ} {s : ℕ} (k : Good z states left lens rights table srule) where
   begin : Passing z left lens rights table srule s 0 0
-  unfolding sum
-  begin = record { begins = refl; kept = λ q l r. absurd (omega (arith, k .within s q r .0)) }
+  begin = record { begins = begins-first lens; kept = λ q l r. absurd (omega (arith, k .within s q r .0)) }
 
   module _ {i from : ℕ} (inv : Passing z left lens rights table srule s i from) (h : i < length left) where
     is-rule : i < z .rules
     is-rule = omega (arith, k .fits .lefts)
 
-    ends : sum (take (i + 1) lens) ≡ from + getD lens i 0
-    ends =
-        let l : i < length lens = omega (arith, is-rule, k .fits .lengths) in
-        rw (add-one i, sum-more lens i l, inv .begins)
-
-    inside : from + getD lens i 0 ≤ length rights
-    inside = omega (arith, ends, sum-part lens (i + 1), k .fits .total)
-
-    small : from + getD lens i 0 ≤ 65536
-    small = omega (arith, sum-bound lens (k .fits .short), ends, sum-part lens (i + 1), k .fits .lengths, k .fits .numbers .rules .most)
-
-    part : take (from + getD lens i 0 - from) (drop from rights) ≡ rightAt lens rights i
-    unfolding rightAt
-    part = let e : from + getD lens i 0 - from ≡ getD lens i 0 = omega arith in rw (e, inv .begins)
-
     symbols : (n : ℕ) → n < length (take (from + getD lens i 0 - from) (drop from rights)) → getD (take (from + getD lens i 0 - from) (drop from rights)) n 0 < z .symbols
-    symbols = rw part (right-below z left lens rights table (k .rules) i is-rule)
+    symbols = rw (begins-part lens rights (inv .begins)) (right-below z left lens rights table (k .rules) i is-rule)
 
     module _ {rules : List Bool} (m : Ruled z table srule s (z .terminals) rules) where
       -- rule i + 1 is the least that fails
@@ -61,18 +44,18 @@ module _ {z : Sizes} {states : ℕ} {left lens rights : List ℕ} {table : List 
       bad b =
           let r : Reduces (grammar z left lens rights) (filledRows z table srule) s (suc i) =
           reduces-any (bare-T z left lens rights) (λ p a. refl) (m .from (suc i) (λ o. omega arith) (rw (add-one i) at (b .0))) in
-          (fails-broken z left lens rights table i s r (rw part at (b .1)), inv .kept)
+          (fails-broken z left lens rights table i s r (rw (begins-part lens rights (inv .begins)) at (b .1)), inv .kept)
 
       -- rule i + 1 is kept
       next : Breaks z table rules i (getD left i 0) (reverse (take (from + getD lens i 0 - from) (drop from rights))) s false
           → Passing z left lens rights table srule s (i + 1) (from + getD lens i 0)
-      next b = record { begins = ends; kept = λ q l. by q (decLe q i) l }
+      next b = record { begins = begins-next (k .fits) (inv .begins) h; kept = λ q l. by q (decLe q i) l }
         where
           this : Kept (grammar z left lens rights) (unsignedReads z table) (filledRows z table srule) s (suc i)
           this r =
               let n : suc i ≤ 1024 = omega (arith, is-rule, k .fits .numbers .rules .most) in
               let o : In rules (i + 1) = rw (add-one i) (ruled-in m n (reduces-any (sym (bare-T z left lens rights)) (λ p a. refl) r)) in
-              passes-kept z left lens rights table i s (rw part at (b o))
+              passes-kept z left lens rights table i s (rw (begins-part lens rights (inv .begins)) at (b o))
 
           by : (q : ℕ) → Dec (q ≤ i) → q ≤ i + 1 → Kept (grammar z left lens rights) (unsignedReads z table) (filledRows z table srule) s q
           by q (yes d) l = inv .kept q d
@@ -102,12 +85,12 @@ shared-slice-read-to c = omega (arith, is-rule (c .before .before .before .befor
 
 cast-to : tie.Need-cast-to Inv-loop μ-loop
 cast-to c =
-    let r : c .before .before .loop .from + getD (c .before .before .before .before .before .before .before .before .before .args .lens .now) (c .before .before .loop .i) 0 ≤ 65536 = small (c .before .before .before .before .before .before .before .before .before .pre .0) (c .before .before .loop .inv) (c .before .loop-test .taken) in
+    let r : c .before .before .loop .from + getD (c .before .before .before .before .before .before .before .before .before .args .lens .now) (c .before .before .loop .i) 0 ≤ 65536 = ends-small (c .before .before .before .before .before .before .before .before .before .pre .0 .fits) (c .before .before .loop .inv .begins) (c .before .loop-test .taken) in
     record { fits = omega arith }
 
 add-to : tie.Need-add-to Inv-loop μ-loop
 add-to c =
-    let r : c .before .before .loop .from + getD (c .before .before .before .before .before .before .before .before .before .args .lens .now) (c .before .before .loop .i) 0 ≤ 65536 = small (c .before .before .before .before .before .before .before .before .before .pre .0) (c .before .before .loop .inv) (c .before .loop-test .taken) in
+    let r : c .before .before .loop .from + getD (c .before .before .before .before .before .before .before .before .before .args .lens .now) (c .before .before .loop .i) 0 ≤ 65536 = ends-small (c .before .before .before .before .before .before .before .before .before .pre .0 .fits) (c .before .before .loop .inv .begins) (c .before .loop-test .taken) in
     record { fits = omega arith }
 
 slice-aggregate-breaks : tie.Need-slice-aggregate-breaks Inv-loop μ-loop
@@ -121,7 +104,7 @@ shared-slice-read-breaks c = c .before .before .before .loop-test .taken
 
 mul-breaks-2 : tie.Need-mul-breaks-2 Inv-loop μ-loop
 mul-breaks-2 c =
-    let r : c .before .before .before .before .loop .from + getD (c .before .before .before .before .before .before .before .before .before .before .before .args .lens .now) (c .before .before .before .before .loop .i) 0 ≤ 65536 = small (c .before .before .before .before .before .before .before .before .before .before .before .pre .0) (c .before .before .before .before .loop .inv) (c .before .before .before .loop-test .taken) in
+    let r : c .before .before .before .before .loop .from + getD (c .before .before .before .before .before .before .before .before .before .before .before .args .lens .now) (c .before .before .before .before .loop .i) 0 ≤ 65536 = ends-small (c .before .before .before .before .before .before .before .before .before .before .before .pre .0 .fits) (c .before .before .before .before .loop .inv .begins) (c .before .before .before .loop-test .taken) in
     record { fits = omega arith }
 
 sub-breaks : tie.Need-sub-breaks Inv-loop μ-loop
@@ -132,7 +115,7 @@ part-breaks-start c = search needs
 
 part-breaks-end : tie.Need-part-breaks-end Inv-loop μ-loop
 part-breaks-end c =
-    let r : c .before .before .before .before .loop .from + getD (c .before .before .before .before .before .before .before .before .before .before .before .args .lens .now) (c .before .before .before .before .loop .i) 0 ≤ length (c .before .before .before .before .before .before .before .before .before .before .before .args .rights .now) = inside (c .before .before .before .before .before .before .before .before .before .before .before .pre .0) (c .before .before .before .before .loop .inv) (c .before .before .before .loop-test .taken) in
+    let r : c .before .before .before .before .loop .from + getD (c .before .before .before .before .before .before .before .before .before .before .before .args .lens .now) (c .before .before .before .before .loop .i) 0 ≤ length (c .before .before .before .before .before .before .before .before .before .before .before .args .rights .now) = ends-inside (c .before .before .before .before .before .before .before .before .before .before .before .pre .0 .fits) (c .before .before .before .before .loop .inv .begins) (c .before .before .before .loop-test .taken) in
     search needs
 
 breaks-requires : tie.Need-breaks-requires Inv-loop μ-loop
