@@ -1,7 +1,7 @@
 -- Demand 1: every entry point takes any table, cells, sheet or token list and ends with an answer of 'What is said back', each refusal exactly under its stated condition, with the lent arrays as stated.
 -- To be believed: the contracts, by which `judge` says `judgement`, `pack` `packed`, `read` `readSaid`, `plain_parse` `plainParse`, `parse` `packedParse` and `check` `checked`, for every input;
--- Moves and Says in this folder; number/specs Number; tables/specs Said, Lists, Size, Grammar, Entry, Signing, with `Passed` and `Least` of Laws/Lowest and `Verdict` of Laws/Judgement;
--- cells/specs Read, Size, Asked; packing/specs Job, Rows, Board, Packed, with `Bench` of Bench, `arraysFit` of Packing and `wiped` of Turns; machine/specs Reads, Machine, Outcome, with `steps` of Laws/Steps;
+-- Moves and Says in this folder; number/specs Number; tables/specs Said, Lists, Size, Grammar, Entry, Signing, Verdict;
+-- cells/specs Read, Size, Asked; packing/specs Job, Rows, Board, Packed, with `Bench` of Bench, `arraysFit` of Packing and `wiped` of Turns; machine/specs Reads, Machine, Outcome, with `steps` of Steps;
 -- parser/specs Reads, Outcome; soundness/specs Path, Verdict, Answer; sheets/specs Decimal, Sheet, Lines, Outcome.
 use mathlib.Core.Path.{_≡_, sym, ap, _∙_}
 use mathlib.Core.Logic.{_↔_, _⊎_}
@@ -14,7 +14,8 @@ use Rattle.tables.specs.Said.{Said}
 use Rattle.tables.specs.Grammar.{Grammar}
 use Rattle.tables.specs.Judgement as tables
 use Rattle.tables.specs.Judgement.{judgement, grammarJudgement}
-use Rattle.tables.specs.Laws.Judgement.{Verdict, said-once}
+use Rattle.tables.specs.Verdict.{Verdict}
+use Rattle.tables.specs.Laws.Judgement.{said-once}
 use Rattle.tables.specs.Laws.Numbers.{judged-low}
 use Rattle.cells.specs.declared.Asked.{Asked}
 use Rattle.cells.specs.Asked as cells

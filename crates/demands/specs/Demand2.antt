@@ -1,5 +1,5 @@
 -- Demand 2: packed cells answer as the written table with only the signed blanks filled, and a packed parse is the plain machine's, in reductions, refusal, place and count of moves; a sheet written and read back is the same sheet, and no second text has its meaning.
--- To be believed: demand 1 with what it names; Room in this folder; tables/specs Filled; packing/specs Promises; `Made` of machine/specs Laws/Steps, `carryStep` of machine/specs Laws/Simulation.
+-- To be believed: demand 1 with what it names; Room in this folder; tables/specs Filled; packing/specs Promises; machine/specs Steps, Carry.
 use mathlib.Core.Path.{_≡_}
 use mathlib.Core.Logic.{_≢_}
 use mathlib.Core.Bool.{true}
@@ -25,8 +25,8 @@ use Rattle.packing.specs.Promises.{Carries, CarriesGoto, Housed}
 use Rattle.machine.specs.Reads.{plainReads}
 use Rattle.machine.specs.Machine.{Job, start, parse}
 use Rattle.machine.specs.Outcome.{plainParse}
-use Rattle.machine.specs.Laws.Simulation.{carryStep}
-use Rattle.machine.specs.Laws.Steps.{steps, Made}
+use Rattle.machine.specs.Carry.{carryStep}
+use Rattle.machine.specs.Steps.{steps, Made}
 use Rattle.parser.specs.Reads.{cellReads}
 use Rattle.parser.specs.Outcome.{packedParse}
 use Rattle.parser.specs.Theorems as parser

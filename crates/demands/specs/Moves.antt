@@ -9,7 +9,7 @@ use Rattle.machine.specs.declared.Answer.{Answer}
 use Rattle.machine.specs.declared.Answer.the-variants.{Token, Syntax, Underflow, NoGoto, Stack, Output, Moves, BadCell}
 use Rattle.machine.specs.Reads.{Act, shift, reduce, accept, blank, malformed, goes, nowhere, broken, Reads}
 use Rattle.machine.specs.Machine.{Job, Config, Result, Step, on, halt, refused, afterShift, afterReduce, afterAccept, current, move, start}
-use Rattle.machine.specs.Laws.Steps.{steps}
+use Rattle.machine.specs.Steps.{steps}
 
 module _ (g : Grammar) (m : Reads) (j : Job) (c : Config) where
   -- the current token is a, and x is read there at the state on top

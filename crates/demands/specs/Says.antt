@@ -12,7 +12,7 @@ use Rattle.tables.specs.Said.{Said, OK, SIZE, GRAMMAR, NOROOM, UNSOUND, BADCELL
 use Rattle.tables.specs.Size.{grammarFits}
 use Rattle.tables.specs.Grammar.{grammar, goodRule}
 use Rattle.tables.specs.Judgement.{judgement, grammarJudgement}
-use Rattle.tables.specs.Laws.Lowest.{Passed, Least}
+use Rattle.tables.specs.Verdict.{Passed, Least}
 use Rattle.cells.specs.declared.Way.the-variants.{Direct, Pointer}
 use Rattle.cells.specs.declared.Read.{Read}
 use Rattle.cells.specs.declared.Read.the-variants.{Shift, Reduce, Accept, Blank, Malformed}

@@ -21,8 +21,9 @@ use Rattle.machine.specs.Reads.{plainReads}
 use Rattle.machine.specs.Machine.{Job, start, parse}
 use Rattle.machine.specs.Arrays.{rulesOf, begin, parseAt}
 use Rattle.machine.specs.Outcome.{saidOf, movesOf, outcome, plainParse}
-use Rattle.machine.specs.Laws.Simulation.{carryStep}
-use Rattle.machine.specs.Laws.Steps.{steps, Made, parse-made}
+use Rattle.machine.specs.Carry.{carryStep}
+use Rattle.machine.specs.Steps.{steps, Made}
+use Rattle.machine.specs.Laws.Steps.{parse-made}
 use Rattle.parser.specs.Reads.{cellReads}
 use Rattle.parser.specs.Outcome.{packedFits, packedParse}
 use Rattle.parser.specs.Step.{rulesFit, stepsAt}

@@ -37,9 +37,13 @@ goodSigned z states a e = cond (ltb a (z .terminals)) (goodAction z states a e) 
 unfoldable pub goodEntry : Sizes → ℕ → ℕ → ℤ → Bool
 goodEntry z states a e = goodSigned z states a (signOf e)
 
+-- the entry at index i, row by row, may stand in its column
+abbrev pub goodAt : Sizes → ℕ → List ℤ → ℕ → Bool
+goodAt z states table i = goodEntry z states (i % z .symbols) (getD table i (pos 0))
+
 -- the lowest bad index, row by row
 unfoldable pub lowestEntry : Sizes → ℕ → List ℤ → Lowest
-lowestEntry z states table = lowest (λ i. goodEntry z states (i % z .symbols) (getD table i (pos 0))) (length table)
+lowestEntry z states table = lowest (goodAt z states table) (length table)
 
 -- what an entry of a terminal column says
 abbrev pub actionOf : Signed → Action

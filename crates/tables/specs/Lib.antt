@@ -6,4 +6,5 @@ pub mod Entry
 pub mod Signing
 pub mod Filled
 pub mod Judgement
+pub mod Verdict
 pub mod Laws

@@ -12,6 +12,7 @@ use borrow.Author.Tests.{ne-eqb}
 use Rattle.tables.specs.declared.Sizes.{Sizes}
 use Rattle.tables.specs.Said.{Said, OK}
 use Rattle.tables.specs.Grammar.{grammar}
+use Rattle.tables.specs.Verdict as may
 use Rattle.tables.specs.Laws.Judgement as tables
 use Rattle.tables.specs.Laws.Numbers.{judged-cases}
 use Rattle.cells.specs.Read.{twice}
@@ -44,9 +45,9 @@ module _ (z : Sizes) (states : ℕ) (left lens rights : List ℕ) (table : List 
   cases : Cases
   cases = judged-cases z states left lens rights table srule sgoto
 
-  pub judge-exactly : (s : Said) → (said ≡ s) ↔ tables.Verdict z states left lens rights table srule sgoto s
+  pub judge-exactly : (s : Said) → (said ≡ s) ↔ may.Verdict z states left lens rights table srule sgoto s
   judge-exactly =
-      exactly (tables.Verdict z states left lens rights table srule sgoto) (λ s k. sym (tables.only z states left lens rights table srule sgoto k))
+      exactly (may.Verdict z states left lens rights table srule sgoto) (λ s k. sym (tables.only z states left lens rights table srule sgoto k))
       (said, tables.judged z states left lens rights table srule sgoto)
 
   -- ---- pack

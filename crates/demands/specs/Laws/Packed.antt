@@ -22,8 +22,8 @@ use Rattle.packing.specs.Written.{bench}
 use Rattle.packing.specs.Theorems as packing
 use Rattle.machine.specs.Reads.{plainReads}
 use Rattle.machine.specs.Machine.{Job, start}
-use Rattle.machine.specs.Laws.Simulation.{carryStep}
-use Rattle.machine.specs.Laws.Steps.{steps}
+use Rattle.machine.specs.Carry.{carryStep}
+use Rattle.machine.specs.Steps.{steps}
 use Rattle.parser.specs.Reads.{cellReads}
 use Rattle.parser.specs.Theorems as parser
 use Rattle.demands.specs.Says.{SaysPack}

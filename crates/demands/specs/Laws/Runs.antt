@@ -10,7 +10,7 @@ use Rattle.tables.specs.Grammar.{Grammar}
 use Rattle.machine.specs.declared.Answer.the-variants.{Moves}
 use Rattle.machine.specs.Reads.{Reads}
 use Rattle.machine.specs.Machine.{Job, Config, Result, Step, on, halt, refused, move, then, run, start, begun, parse}
-use Rattle.machine.specs.Laws.Steps.{andOn, steps}
+use Rattle.machine.specs.Steps.{andOn, steps}
 use Rattle.demands.specs.Moves.{RunEnds, no-stack, halted, limited}
 use Rattle.demands.specs.Laws.Rows.{exactly}
 

@@ -20,7 +20,8 @@ use Rattle.tables.specs.Grammar.{grammar}
 use Rattle.tables.specs.Judgement.{judgement}
 use Rattle.tables.specs.Laws.Tests.{and-true}
 use Rattle.tables.specs.Laws.Grammar.{right-length}
-use Rattle.tables.specs.Laws.Judgement.{Verdict, sizes, rule, entry, state, target, good, judged}
+use Rattle.tables.specs.Verdict.{Verdict, sizes, rule, entry, state, target, good}
+use Rattle.tables.specs.Laws.Judgement.{judged}
 use Rattle.machine.specs.declared.Answer.{Answer}
 use Rattle.machine.specs.declared.Answer.the-variants.{Accepted, Token, Syntax, Underflow, NoGoto, Stack, Output, Moves, BadCell}
 use Rattle.machine.specs.declared.Ran.{Ran}

@@ -19,7 +19,8 @@ use Rattle.tables.specs.Laws.Entry.{TermOk, NontermOk}
 use Rattle.tables.specs.Laws.Signing.{RuleSigned, unsigned, by-rule}
 use Rattle.tables.specs.Laws.Judgement.{WellFormed}
 use Rattle.machine.specs.Reads.{Act, shift, reduce, accept, blank, malformed, Go, goes, nowhere, broken, Reads, actOf, goOf, plainReads}
-use Rattle.machine.specs.Laws.Simulation.{Rule, carryAct, carryGo, CarriesBelow}
+use Rattle.machine.specs.Carry.{carryAct, carryGo}
+use Rattle.machine.specs.Laws.Simulation.{Rule, CarriesBelow}
 
 -- a shift to a state below L, a reduction by a rule 2..G
 abbrev ActIn : Sizes → ℕ → Act → Type 0

@@ -14,47 +14,13 @@ use Rattle.machine.specs.declared.Answer.{Answer}
 use Rattle.machine.specs.declared.Answer.the-variants.{Accepted, Token, Syntax, Underflow, NoGoto, Stack, Output, Moves, BadCell}
 use Rattle.machine.specs.Reads.{Act, shift, reduce, accept, blank, malformed, Go, goes, nowhere, broken, Reads}
 use Rattle.machine.specs.Machine.{Job, Config, Result, Step, on, halt, refused, current, terminal, pushed, written}
+use Rattle.machine.specs.Carry.{carryAct, carryGo, carryAnswer, carryConfig, carryResult, carryStep}
 use Rattle.machine.specs.Machine.{afterShift, afterReduce, afterAccept, gone, popped, acted, looked, move, then, run, start, begun, parse}
 
 -- rules that a reduction may name
 pub record Rule (g : Grammar) (r : ℕ) : Type 0 where
   pub low : 2 ≤ r
   pub high : r ≤ g .G
-
--- a map of states, carried over to all that names a state
-module _ (f : ℕ → ℕ) where
-  abbrev pub carryAct : Act → Act
-  carryAct (shift t) = shift (f t)
-  carryAct (reduce r) = reduce r
-  carryAct accept = accept
-  carryAct blank = blank
-  carryAct malformed = malformed
-
-  abbrev pub carryGo : Go → Go
-  carryGo (goes t) = goes (f t)
-  carryGo nowhere = nowhere
-  carryGo broken = broken
-
-  abbrev pub carryAnswer : Answer → Answer
-  carryAnswer (Accepted n) = Accepted n
-  carryAnswer (Token i) = Token i
-  carryAnswer (Syntax i) = Syntax i
-  carryAnswer (Underflow i r) = Underflow i r
-  carryAnswer (NoGoto i r) = NoGoto i r
-  carryAnswer (Stack i) = Stack i
-  carryAnswer (Output i) = Output i
-  carryAnswer (Moves i) = Moves i
-  carryAnswer (BadCell s) = BadCell (f s)
-
-  abbrev pub carryConfig : Config → Config
-  carryConfig c = record { state = f (c .state); below = map f (c .below); place = c .place; made = c .made; moves = c .moves }
-
-  abbrev pub carryResult : Result → Result
-  carryResult r = record { answer = carryAnswer (r .answer); made = r .made; moves = r .moves }
-
-  abbrev pub carryStep : Step → Step
-  carryStep (on c) = on (carryConfig c)
-  carryStep (halt r) = halt (carryResult r)
 
 -- What a map of states must carry, on the stacks that D holds of (the state on top first): every read of the first machine to that of the second. D holds of the stack that a move makes.
 pub record Carries (g : Grammar) (m n : Reads) (D : List ℕ → Type 0) (f : ℕ → ℕ) : Type 0 where

@@ -16,31 +16,11 @@ use Rattle.machine.specs.declared.Answer.the-variants.{Accepted, Token, 
 use Rattle.machine.specs.Reads.{Act, shift, reduce, accept, blank, malformed, Go, goes, nowhere, broken, Reads}
 use Rattle.machine.specs.Machine.{Job, Config, Result, Step, on, halt, refused, current, pushed, written}
 use Rattle.machine.specs.Machine.{afterShift, afterReduce, afterAccept, gone, popped, acted, looked, move, then, run, start, begun, parse}
-use Rattle.machine.specs.Laws.Simulation.{Carries, carryConfig, carryStep, Kept, move-carried}
-
--- what follows a move that goes on
-unfoldable pub andOn : (Config → Step) → Step → Step
-andOn k (on c) = k c
-andOn k (halt r) = halt r
-
--- k moves from c, or fewer where one halts
-unfoldable pub steps : Grammar → Reads → Job → ℕ → Config → Step
-steps g m j zero c = on c
-steps g m j (suc k) c = andOn (steps g m j k) (move g m j c)
+use Rattle.machine.specs.Carry.{carryConfig, carryStep}
+use Rattle.machine.specs.Steps.{andOn, steps, accepting, Made}
+use Rattle.machine.specs.Laws.Simulation.{Carries, Kept, move-carried}
 
 -- ---- each move that goes on is counted once, accepting too, and a refused move is not
-
--- accepting is a move, though it ends the run
-abbrev pub accepting : Answer → ℕ
-accepting (Accepted n) = 1
-accepting (Token i) = 0
-accepting (Syntax i) = 0
-accepting (Underflow i r) = 0
-accepting (NoGoto i r) = 0
-accepting (Stack i) = 0
-accepting (Output i) = 0
-accepting (Moves i) = 0
-accepting (BadCell s) = 0
 
 -- a move from n moves made is counted as it must be
 abbrev pub Counts : ℕ → Step → Type 0
@@ -88,17 +68,8 @@ module _ (g : Grammar) (m : Reads) (j : Job) where
       by Wrong = zeroth (c .moves)
       by (Is a) = acted-counts c (m .act (c .state) a)
 
-  -- how a run from c with n moves left ended: after so many moves that went on, at d, the next one ended it, or the limit was reached;
-  -- the count of moves is theirs, and one more where the last one accepts
-  pub record Made (n : ℕ) (c : Config) (r : Result) : Type 0 where
-    pub before : ℕ
-    pub at : Config
-    pub reached : steps g m j before c ≡ on at
-    pub ended : (move g m j at ≡ halt r) ⊎ ((before ≡ n) × (r ≡ refused (Moves (at .place)) at))
-    pub counted : r .moves ≡ c .moves + before + accepting (r .answer)
-
   -- every run ends so
-  pub run-made : (n : ℕ) (c : Config) → Made n c (run g m j n c)
+  pub run-made : (n : ℕ) (c : Config) → Made g m j n c (run g m j n c)
   unfolding run steps andOn then refused
   run-made zero c =
       record {
@@ -110,9 +81,9 @@ module _ (g : Grammar) (m : Reads) (j : Job) where
       }
   run-made (suc n) c = by (move g m j c) refl (move-counts c) (λ d. run-made n d)
     where
-      by : (s : Step) → move g m j c ≡ s → Counts (c .moves) s → ((d : Config) → Made n d (run g m j n d)) → Made (suc n) c (then (run g m j n) s)
+      by : (s : Step) → move g m j c ≡ s → Counts (c .moves) s → ((d : Config) → Made g m j n d (run g m j n d)) → Made g m j (suc n) c (then (run g m j n) s)
       by (on d) q e f =
-          let w : Made n d (run g m j n d) = f d in
+          let w : Made g m j n d (run g m j n d) = f d in
           record {
             before = suc (w .before);
             at = w .at;
@@ -130,7 +101,7 @@ module _ (g : Grammar) (m : Reads) (j : Job) where
           }
 
   -- and so does every parse that has a stack
-  pub parse-made : (limit : ℕ) → 0 < j .stack → Made limit start (parse g m j limit)
+  pub parse-made : (limit : ℕ) → 0 < j .stack → Made g m j limit start (parse g m j limit)
   unfolding parse begun
   parse-made limit h = rw (lt-ltb 0 (j .stack) h) (run-made limit start)
 

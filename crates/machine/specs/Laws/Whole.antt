@@ -22,7 +22,8 @@ use Rattle.machine.specs.declared.Answer.the-variants.{Accepted, Token, 
 use Rattle.machine.specs.Reads.{Act, shift, reduce, accept, blank, malformed, Go, goes, nowhere, broken, Reads, actOf, goOf, plainReads}
 use Rattle.machine.specs.Machine.{Job, Config, Result, Step, on, halt, refused, current, pushed, written}
 use Rattle.machine.specs.Machine.{afterShift, afterReduce, afterAccept, gone, popped, acted, looked, move, then, run, start, begun, parse}
-use Rattle.machine.specs.Laws.Simulation.{Carries, carryAnswer, parse-carried}
+use Rattle.machine.specs.Carry.{carryAnswer}
+use Rattle.machine.specs.Laws.Simulation.{Carries, parse-carried}
 
 -- a read that is never malformed
 pub record Whole (m : Reads) : Type 0 where

@@ -11,8 +11,10 @@ use lib.IntN.{ℤ, pos, negsuc}
 use Rattle.tables.specs.declared.Sizes.{Sizes}
 use Rattle.tables.specs.Entry.{entryAt, goodEntry, lowestEntry}
 use Rattle.tables.specs.Signing.{goodSignature, lowestState}
-use Rattle.tables.specs.Laws.Lowest.{Passed, nowhere-passed}
-use Rattle.tables.specs.Laws.Entry.{term-ok, nonterm-ok, goodAt}
+use Rattle.tables.specs.Verdict.{Passed}
+use Rattle.tables.specs.Laws.Lowest.{nowhere-passed}
+use Rattle.tables.specs.Entry.{goodAt}
+use Rattle.tables.specs.Laws.Entry.{term-ok, nonterm-ok}
 use Rattle.tables.specs.Laws.Signing.{RuleSigned, unsigned, by-rule, signature-ok}
 use Rattle.tables.specs.Laws.Size.{NumbersFit, SigningFits, signing-fits}
 use Rattle.packing.specs.Job.{blank, rule, view}

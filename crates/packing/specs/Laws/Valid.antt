@@ -10,8 +10,10 @@ use lib.ListN.{length, getD, List·getD-eq-default}
 use Rattle.tables.specs.declared.Sizes.{Sizes}
 use Rattle.tables.specs.Entry.{entryAt, goodEntry, lowestEntry}
 use Rattle.tables.specs.Signing.{signing, goodSignature, goodTarget, lowestState, lowestTarget}
-use Rattle.tables.specs.Laws.Lowest.{Passed, nowhere-passed}
-use Rattle.tables.specs.Laws.Entry.{TermOk, NontermOk, term-ok, nonterm-ok, goodAt, TableOk, table-ok}
+use Rattle.tables.specs.Verdict.{Passed}
+use Rattle.tables.specs.Laws.Lowest.{nowhere-passed}
+use Rattle.tables.specs.Entry.{goodAt}
+use Rattle.tables.specs.Laws.Entry.{TermOk, NontermOk, term-ok, nonterm-ok, TableOk, table-ok}
 use Rattle.tables.specs.Laws.Signing.{RuleSigned, unsigned, by-rule, SigningOk, signing-ok}
 use Rattle.tables.specs.Laws.Size.{SigningFits, signing-fits, table-fits}
 use Rattle.cells.specs.Read.{Kind, twice}

@@ -13,7 +13,8 @@ use Rattle.tables.specs.declared.Sizes.{Sizes}
 use Rattle.tables.specs.Said.{Said, OK, SIZE}
 use Rattle.tables.specs.Judgement.{judgement}
 use Rattle.tables.specs.Laws.Tests.{and-true}
-use Rattle.tables.specs.Laws.Judgement.{Verdict, sizes, rule, entry, state, target, good, judged}
+use Rattle.tables.specs.Verdict.{Verdict, sizes, rule, entry, state, target, good}
+use Rattle.tables.specs.Laws.Judgement.{judged}
 use Rattle.cells.specs.Read.{twice}
 use Rattle.cells.specs.Size.{cellsFit}
 use Rattle.cells.specs.Laws.Size.{CellsFit, cells-fit}

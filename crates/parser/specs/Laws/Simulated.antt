@@ -33,8 +33,10 @@ use Rattle.machine.specs.Reads as machine
 use Rattle.machine.specs.Reads.{plainReads}
 use Rattle.machine.specs.Machine.{Job, start, parse}
 use Rattle.machine.specs.Outcome.{job, plainParse}
-use Rattle.machine.specs.Laws.Simulation.{carryAct, carryGo, carryStep, CarriesBelow, carries-below}
-use Rattle.machine.specs.Laws.Steps.{steps, steps-carried}
+use Rattle.machine.specs.Carry.{carryAct, carryGo, carryStep}
+use Rattle.machine.specs.Laws.Simulation.{CarriesBelow, carries-below}
+use Rattle.machine.specs.Steps.{steps}
+use Rattle.machine.specs.Laws.Steps.{steps-carried}
 use Rattle.machine.specs.Laws.Whole.{plain-whole, parse-equal}
 use Rattle.machine.specs.Laws.Plain.{plain-carried}
 use Rattle.parser.specs.Reads.{actOf, goOf, cellReads}

@@ -12,7 +12,8 @@ use Rattle.tables.specs.declared.Lowest.the-variants.{At, Nowhere}
 use Rattle.tables.specs.Lists.{among}
 use Rattle.tables.specs.Grammar.{Grammar}
 use Rattle.tables.specs.Laws.Tests.{clash}
-use Rattle.tables.specs.Laws.Lowest.{Least, at-least, nowhere-passed}
+use Rattle.tables.specs.Verdict.{Least}
+use Rattle.tables.specs.Laws.Lowest.{at-least, nowhere-passed}
 use Rattle.tables.specs.Laws.Members.{among-from, among-in}
 use Rattle.machine.specs.Reads.{Reads}
 use Rattle.soundness.specs.Path.{PathTo, Reach}

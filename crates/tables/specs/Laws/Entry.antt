@@ -11,9 +11,9 @@ use lib.IntN.{ℤ, pos, negsuc}
 use lib.ListN.{length, getD}
 use borrow.Author.Tests.{lt-ltb, le-ltb, ltb-true, ltb-false, le-leb, leb-true, eq-eqb, ne-eqb, eqb-true, eqb-false, not-true}
 use Rattle.tables.specs.declared.Sizes.{Sizes}
-use Rattle.tables.specs.Entry.{entryAt, goodSigned, goodEntry}
+use Rattle.tables.specs.Entry.{entryAt, goodSigned, goodEntry, goodAt}
 use Rattle.tables.specs.Laws.Tests.{clash, and-true}
-use Rattle.tables.specs.Laws.Lowest.{Passed}
+use Rattle.tables.specs.Verdict.{Passed}
 
 -- a terminal column: blank, a shift, accept, a reduction
 abbrev pub TermOk : Sizes → ℕ → ℕ → ℤ → Type 0
@@ -65,10 +65,6 @@ module _ (z : Sizes) (states a : ℕ) where
 pub record TableOk (z : Sizes) (states : ℕ) (table : List ℤ) : Type 0 where
   pub terms : (s a : ℕ) → s < states → a < z .terminals → TermOk z states a (entryAt z table s a)
   pub nonterms : (s a : ℕ) → s < states → z .terminals ≤ a → a < z .symbols → NontermOk z states a (entryAt z table s a)
-
--- the entry at index i is good
-abbrev pub goodAt : Sizes → ℕ → List ℤ → ℕ → Bool
-goodAt z states table i = goodEntry z states (i % z .symbols) (getD table i (pos 0))
 
 module _ (z : Sizes) (states : ℕ) (table : List ℤ) (size : length table ≡ states * z .symbols) where
   -- the entry of state s and symbol a is the one at index s * M + a

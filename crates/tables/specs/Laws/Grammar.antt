@@ -15,7 +15,8 @@ use Rattle.tables.specs.Lists.{all, sum}
 use Rattle.tables.specs.Grammar.{Grammar, grammar, rightAt, inner, onRight, goodSides, goodRule, lowestRule}
 use Rattle.tables.specs.Laws.Tests.{and-true}
 use Rattle.tables.specs.Laws.Lists.{all-at, all-in, sum-more, sum-part}
-use Rattle.tables.specs.Laws.Lowest.{Passed, at-least}
+use Rattle.tables.specs.Verdict.{Passed}
+use Rattle.tables.specs.Laws.Lowest.{at-least}
 
 module _ (z : Sizes) (left lens rights : List ℕ) where
   -- the lowest bad rule is a rule

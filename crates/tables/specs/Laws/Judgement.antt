@@ -17,12 +17,15 @@ use Rattle.tables.specs.Size.{allFit}
 use Rattle.tables.specs.Grammar.{grammar, goodRule, lowestRule}
 use Rattle.tables.specs.Entry.{lowestEntry}
 use Rattle.tables.specs.Signing.{signing, goodSignature, goodTarget, lowestState, lowestTarget}
+use Rattle.tables.specs.Verdict.{Verdict, sizes, rule, entry, state, target, good}
 use Rattle.tables.specs.Judgement.{saidOf, named, signJudgement, judgement}
 use Rattle.tables.specs.Lists.{lowest}
-use Rattle.tables.specs.Laws.Lowest.{Passed, Least, lowest-at, lowest-nowhere, at-least, nowhere-passed}
+use Rattle.tables.specs.Verdict.{Passed, Least}
+use Rattle.tables.specs.Laws.Lowest.{lowest-at, lowest-nowhere, at-least, nowhere-passed}
 use Rattle.tables.specs.Laws.Size.{AllFit, all-fit, fit-all, GrammarFits, grammar-fits, SigningFits, signing-fits, table-fits}
 use Rattle.tables.specs.Laws.Grammar.{GrammarOk, grammar-ok, ok-grammar}
-use Rattle.tables.specs.Laws.Entry.{goodAt, TableOk, table-ok, ok-table}
+use Rattle.tables.specs.Entry.{goodAt}
+use Rattle.tables.specs.Laws.Entry.{TableOk, table-ok, ok-table}
 use Rattle.tables.specs.Laws.Signing.{SigningOk, signing-ok, ok-signatures, ok-targets}
 
 module _ (z : Sizes) (states : ℕ) (left lens rights : List ℕ) (table : List ℤ) (srule sgoto : List ℕ) where
@@ -41,15 +44,8 @@ module _ (z : Sizes) (states : ℕ) (left lens rights : List ℕ) (table : List 
   abbrev targetAt : ℕ → Bool
   targetAt = goodTarget states sgoto
 
-  -- what may be said, and when: each refusal names the lowest bad one, and comes only where no earlier refusal does
-  pub data Verdict : Said → Type 0 where
-    sizes : fits ≡ false → Verdict SIZE
-    rule : (i : ℕ) → fits ≡ true → Least ruleAt (z .rules) i → Verdict (GRAMMAR (i + 1))
-    entry : (i : ℕ) → fits ≡ true → Passed ruleAt (z .rules) → Least entryIs (length table) i → Verdict (ENTRY i)
-    state : (s : ℕ) → fits ≡ true → Passed ruleAt (z .rules) → Passed entryIs (length table) → Least stateAt (length srule) s → Verdict (SIGN-STATE s)
-    target : (i : ℕ) → fits ≡ true → Passed ruleAt (z .rules) → Passed entryIs (length table) → Passed stateAt (length srule) → Least targetAt (length sgoto) i
-        → Verdict (SIGN-NONTERMINAL (z .terminals + i))
-    good : fits ≡ true → Passed ruleAt (z .rules) → Passed entryIs (length table) → Passed stateAt (length srule) → Passed targetAt (length sgoto) → Verdict (OK [])
+  abbrev May : Said → Type 0
+  May = Verdict z states left lens rights table srule sgoto
 
   abbrev said : Said
   said = judgement z states left lens rights table srule sgoto
@@ -58,37 +54,37 @@ module _ (z : Sizes) (states : ℕ) (left lens rights : List ℕ) (table : List 
     module _ (p : Passed ruleAt (z .rules)) where
       module _ (q : Passed entryIs (length table)) where
         by-target : Passed stateAt (length srule) → (l : Lowest) → lowest targetAt (length sgoto) ≡ l
-            → Verdict (named l (λ i. SIGN-NONTERMINAL (z .terminals + i)) (OK []))
+            → May (named l (λ i. SIGN-NONTERMINAL (z .terminals + i)) (OK []))
         by-target r (At i) e = target i f p q r (at-least targetAt (length sgoto) i e)
         by-target r Nowhere e = good f p q r (nowhere-passed targetAt (length sgoto) e)
 
         by-state : (l : Lowest) → lowest stateAt (length srule) ≡ l
-            → Verdict (named l SIGN-STATE (named (lowest targetAt (length sgoto)) (λ i. SIGN-NONTERMINAL (z .terminals + i)) (OK [])))
+            → May (named l SIGN-STATE (named (lowest targetAt (length sgoto)) (λ i. SIGN-NONTERMINAL (z .terminals + i)) (OK [])))
         by-state (At s) e = state s f p q (at-least stateAt (length srule) s e)
         by-state Nowhere e = by-target (nowhere-passed stateAt (length srule) e) (lowest targetAt (length sgoto)) refl
 
-      by-entry : (l : Lowest) → lowest entryIs (length table) ≡ l → Verdict (named l ENTRY (signJudgement z states srule sgoto))
+      by-entry : (l : Lowest) → lowest entryIs (length table) ≡ l → May (named l ENTRY (signJudgement z states srule sgoto))
       unfolding signJudgement lowestState lowestTarget
       by-entry (At i) e = entry i f p (at-least entryIs (length table) i e)
       by-entry Nowhere e = by-state (nowhere-passed entryIs (length table) e) (lowest stateAt (length srule)) refl
 
     by-rule : (l : Lowest) → lowest ruleAt (z .rules) ≡ l
-        → Verdict (named l (λ i. GRAMMAR (i + 1)) (named (lowest entryIs (length table)) ENTRY (signJudgement z states srule sgoto)))
+        → May (named l (λ i. GRAMMAR (i + 1)) (named (lowest entryIs (length table)) ENTRY (signJudgement z states srule sgoto)))
     by-rule (At i) e = rule i f (at-least ruleAt (z .rules) i e)
     by-rule Nowhere e = by-entry (nowhere-passed ruleAt (z .rules) e) (lowest entryIs (length table)) refl
 
   -- what the judgement says is a verdict
-  pub judged : Verdict said
+  pub judged : May said
   unfolding judgement lowestRule lowestEntry
   judged = by-fits fits refl
     where
       by-fits : (b : Bool) → fits ≡ b
-          → Verdict (cond b (named (lowest ruleAt (z .rules)) (λ i. GRAMMAR (i + 1)) (named (lowest entryIs (length table)) ENTRY (signJudgement z states srule sgoto))) SIZE)
+          → May (cond b (named (lowest ruleAt (z .rules)) (λ i. GRAMMAR (i + 1)) (named (lowest entryIs (length table)) ENTRY (signJudgement z states srule sgoto))) SIZE)
       by-fits true e = by-rule e (lowest ruleAt (z .rules)) refl
       by-fits false e = sizes e
 
   -- and there is no other
-  pub only : {s : Said} → Verdict s → s ≡ said
+  pub only : {s : Said} → May s → s ≡ said
   unfolding judgement signJudgement lowestRule lowestEntry lowestState lowestTarget
   only (sizes f) = rw f
   only (rule i f l) = rw (f, lowest-at ruleAt (z .rules) i (l .0) (l .1) (l .2))
@@ -122,7 +118,7 @@ module _ (z : Sizes) (states : ℕ) (left lens rights : List ℕ) (table : List 
   pub ok-means : said ≡ OK [] → WellFormed
   ok-means e = from judged e
     where
-      from : {s : Said} → Verdict s → s ≡ OK [] → WellFormed
+      from : {s : Said} → May s → s ≡ OK [] → WellFormed
       from (sizes f) n = absurd (let k : _≡_ {A = ℕ} 1 0 = ap (λ (t : Said). t .number) n in omega arith)
       from (rule i f l) n = absurd (let k : _≡_ {A = ℕ} 2 0 = ap (λ (t : Said). t .number) n in omega arith)
       from (entry i f p l) n = absurd (let k : _≡_ {A = ℕ} 3 0 = ap (λ (t : Said). t .number) n in omega arith)

@@ -9,10 +9,7 @@ use borrow.Author.Count.{below-more}
 use Rattle.tables.specs.declared.Lowest.{Lowest}
 use Rattle.tables.specs.declared.Lowest.the-variants.{At, Nowhere}
 use Rattle.tables.specs.Lists.{orAt, lowest}
-
--- every number below i is good
-abbrev pub Passed : (ℕ → Bool) → ℕ → Type 0
-Passed good i = (k : ℕ) → k < i → good k ≡ true
+use Rattle.tables.specs.Verdict.{Passed, Least}
 
 module _ (good : ℕ → Bool) where
   pub lowest-nowhere : (n : ℕ) → Passed good n → lowest good n ≡ Nowhere
@@ -47,19 +44,15 @@ module _ (good : ℕ → Bool) where
       (λ (l : k < n). nowhere-passed n (p .0) k l)
       (eq-or-lt-of-le (let l : k ≤ n = omega arith in l))
 
-  -- i is bad, and every number below it is good
-  abbrev pub Least : ℕ → ℕ → Type 0
-  Least n i = (i < n) × Passed good i × (good i ≡ false)
-
-  at-by : (l : Lowest) (b : Bool) (n i : ℕ) → lowest good n ≡ l → good n ≡ b → (l ≡ At i → Least n i) → orAt l (not b) n ≡ At i → Least (suc n) i
+  at-by : (l : Lowest) (b : Bool) (n i : ℕ) → lowest good n ≡ l → good n ≡ b → (l ≡ At i → Least good n i) → orAt l (not b) n ≡ At i → Least good (suc n) i
   unfolding orAt
   at-by (At k) b n i p q before e =
-      let r : Least n i = before e in (omega (arith, r .0), r .1, r .2)
+      let r : Least good n i = before e in (omega (arith, r .0), r .1, r .2)
   at-by Nowhere true n i p q before e = let z : _≡_ {A = ℕ} 0 1 = cc in absurd (omega arith)
   at-by Nowhere false n i p q before e =
       let s : n ≡ i = cc in (omega arith, rw (← s) (nowhere-passed n p), rw (← s) q)
 
-  pub at-least : (n i : ℕ) → lowest good n ≡ At i → Least n i
+  pub at-least : (n i : ℕ) → lowest good n ≡ At i → Least good n i
   unfolding lowest
   at-least zero i e = let z : _≡_ {A = ℕ} 0 1 = cc in absurd (omega arith)
   at-least (suc n) i e = at-by (lowest good n) (good n) n i refl refl (at-least n i) e

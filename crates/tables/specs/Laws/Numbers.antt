@@ -19,7 +19,8 @@ use Rattle.tables.specs.Judgement.{named, signJudgement, signingJudgemen
 use Rattle.tables.specs.Laws.Lowest.{nowhere-passed}
 use Rattle.tables.specs.Laws.Size.{SigningFits, signing-fits}
 use Rattle.tables.specs.Laws.Signing.{SigningOk, signing-ok}
-use Rattle.tables.specs.Laws.Judgement.{Verdict, sizes, rule, entry, state, target, good, judged}
+use Rattle.tables.specs.Verdict.{Verdict, sizes, rule, entry, state, target, good}
+use Rattle.tables.specs.Laws.Judgement.{judged}
 
 -- where 0 is said, none is named and what comes after says 0
 named-zero : (l : Lowest) (name : ℕ → Said) (next : Said) → ((k : ℕ) → name k .number ≢ 0) → named l name next .number ≡ 0 → (l ≡ Nowhere) × (next .number ≡ 0)

@@ -14,7 +14,8 @@ use Rattle.tables.specs.Lists.{among}
 use Rattle.tables.specs.Signing.{Signing, signing, goodSignature, goodTarget, lowestTarget}
 use Rattle.tables.specs.Laws.Tests.{and-true, or-true}
 use Rattle.tables.specs.Laws.Lists.{among-at, not-among}
-use Rattle.tables.specs.Laws.Lowest.{Passed, at-least}
+use Rattle.tables.specs.Verdict.{Passed}
+use Rattle.tables.specs.Laws.Lowest.{at-least}
 
 module _ (states : ℕ) (sgoto : List ℕ) where
   -- the lowest bad nonterminal is one

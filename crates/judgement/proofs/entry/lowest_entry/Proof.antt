@@ -13,7 +13,7 @@ use Rattle.number.specs.declared.Signed.{Signed}
 use Rattle.tables.specs.declared.Sizes.{Sizes}
 use Rattle.tables.specs.declared.Lowest.the-variants.{At, Nowhere}
 use Rattle.tables.specs.Entry.{goodSigned, goodEntry, lowestEntry}
-use Rattle.tables.specs.Laws.Entry.{goodAt}
+use Rattle.tables.specs.Entry.{goodAt}
 use Rattle.tables.specs.Laws.Lowest.{Walk, walk-begin, walk-on, walk-bad, walk-end}
 use Rattle.tables.specs.Laws.Size.{NumbersFit, numbers-fit}
 use Rattle.judgement.proofs.entry.lowest_entry.Statement.{statement}
