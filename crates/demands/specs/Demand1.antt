@@ -26,7 +26,7 @@ use Rattle.packing.specs.Bench.{Bench}
 use Rattle.packing.specs.Packing as packing
 use Rattle.packing.specs.Packing.{Result, result, packed}
 use Rattle.packing.specs.Laws.Outcome.{packing-once}
-use Rattle.packing.specs.Laws.Numbers.{packed-number}
+use Rattle.packing.specs.Laws.Numbers.{packed-low}
 use Rattle.machine.specs.declared.Parsed.{Parsed}
 use Rattle.machine.specs.Reads.{Reads}
 use Rattle.machine.specs.Machine as machine
@@ -69,7 +69,7 @@ module _ (z : Sizes) (states : ℕ) (left lens rights : List ℕ) (table : List 
 
   -- It says 0 to 5.
   pub pack-numbers : (B : Bench) → packed z states left lens rights table srule sgoto B .said .number ≤ 5
-  pack-numbers = packed-number z states left lens rights table srule sgoto
+  pack-numbers = packed-low z states left lens rights table srule sgoto
 
   -- Any two outcomes that its contract allows for one input are equal, the arrays too.
   pub pack-once : (B : Bench) (a b : Packing) {A C : Bench} → result (packing.saidOf a) A ≡ packed z states left lens rights table srule sgoto B

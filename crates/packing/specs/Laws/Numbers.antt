@@ -77,9 +77,9 @@ module _ (z : Sizes) (states : ℕ) (left lens rights : List ℕ) (table : List 
     placed = placementB job (length (A .bases)) (bound job)
 
     -- the number is at most 5
-    pub packed-number : packed z states left lens rights table srule sgoto A .said .number ≤ 5
+    pub packed-low : packed z states left lens rights table srule sgoto A .said .number ≤ 5
     unfolding packed
-    packed-number = by (arraysFit states A) (eqb (judge .number) 0)
+    packed-low = by (arraysFit states A) (eqb (judge .number) 0)
       where
         by : (b d : Bool) → cond b (cond d (placedBy placed A) (result judge A)) (result SIZE A) .said .number ≤ 5
         by true true = placed-number placed A

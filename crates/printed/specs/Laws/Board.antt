@@ -22,7 +22,7 @@ module _ (srule sgoto : List ℕ) where
   -- packing says a number up to 5
   pub packing-low : boardPacked srule sgoto lent .said .number ≤ 5
   unfolding boardPacked
-  packing-low = packing.packed-number (small .sizes) (small .states) (small .left) (small .lens) (small .rights) (small .table) srule sgoto lent
+  packing-low = packing.packed-low (small .sizes) (small .states) (small .left) (small .lens) (small .rights) (small .table) srule sgoto lent
 
   -- where it says OK, there are at most 64 cells, with numbers up to 2,000 in them
   pub board-held : boardPacked srule sgoto lent .said .number ≡ 0 → packing.Held 2000 64 (boardPacked srule sgoto lent)

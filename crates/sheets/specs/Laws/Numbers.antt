@@ -13,6 +13,7 @@ use Rattle.tables.specs.Laws.Numbers.{sign-low}
 use Rattle.sheets.specs.Lines.{Told, values, badLine, linesOf}
 use Rattle.sheets.specs.Outcome.{readOutcome, signedOr, toldBy, sheetRead}
 
+-- a signing that was read says OK or what SIGN says
 signed-low : (q : Said) (n : ℕ) (rules targets srule sgoto : List ℕ) → q .number ≤ 4 → signedOr q n rules targets srule sgoto .said .number ≤ 15
 unfolding signedOr
 signed-low q n rules targets srule sgoto h = by (eqb (q .number) 0)
@@ -22,6 +23,7 @@ signed-low q n rules targets srule sgoto h = by (eqb (q .number) 0)
     by false = omega arith
 
 module _ (z : Sizes) (states : ℕ) (text srule sgoto : List ℕ) where
+  -- the lines say LINE, or SIGN is asked
   told-low : (t : Told) → toldBy z states (length text) srule sgoto t .said .number ≤ 15
   told-low (badLine n) = omega arith
   told-low (values vs) =

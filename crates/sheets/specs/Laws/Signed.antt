@@ -22,6 +22,7 @@ module _ (z : Sizes) (states : ℕ) (srule sgoto : List ℕ) (y : Signed z state
   pub lengths : SigningFits z states srule sgoto
   lengths = signing-fits z states srule sgoto (y .fits)
 
+  -- all its signatures are good
   signatures : SigningOk z states (signing z srule sgoto)
   signatures = sign-means z states srule sgoto (y .fits) (y .judged)
 
