@@ -16,11 +16,13 @@ use Rattle.tables.specs.Laws.Size.{NumbersFit}
 use Rattle.cells.specs.Read.{twice}
 use Rattle.packing.specs.declared.Written.{Written}
 use Rattle.packing.specs.declared.Written.the-variants as written
+use Rattle.packing.specs.declared.Stored.{Stored}
+use Rattle.packing.specs.declared.Stored.the-variants as stored
 use Rattle.cells.specs.Read.{Kind, action, goto}
-use Rattle.packing.specs.Job.{Act, blank, shift, rule, Job, view}
+use Rattle.packing.specs.Job.{Act, blank, shift, rule, Job, view, neg}
 use mathlib.Core.Bool.{_&&_}
 use Rattle.packing.specs.Rows.{rep}
-use Rattle.packing.specs.Bench.{Bench, usedB, freeB, needs, needsUpto, settleB, houseB, fillB}
+use Rattle.packing.specs.Bench.{Bench, usedB, freeB, seen, needsUpto, putB, settleB, houseB, fillB}
 use Rattle.packing.specs.Job.{jobOf}
 
 -- the four arrays as one
@@ -90,14 +92,15 @@ abbrev pub everyUpto : (ℕ → Bool) → ℕ → List ℕ → ℕ → Bool
 everyUpto φ b need zero = true
 everyUpto φ b need (suc n) = everyUpto φ b need n && φ (b + getD need n 0)
 
+-- how many cells the entry e of column a needs: its own, and one more if it is the first to shift to a state without a cell (hl)
+abbrev pub neededBy : (ℕ → Bool) → (ℕ → Act) → ℕ → Act → ℕ
+neededBy hl f a blank = 0
+neededBy hl f a (rule r) = 1
+neededBy hl f a (shift t) = cond (hl t && not (seen f t a)) 2 1
+
 -- the first n cells of `need` are those that the row f needs in its columns below a
 pub record Gathered (hl : ℕ → Bool) (f : ℕ → Act) (a : ℕ) (need : List ℕ) (n : ℕ) : Type 0 where
   pub all : (φ : ℕ → Bool) (b : ℕ) → everyUpto φ b need n ≡ needsUpto φ hl f b a
-
--- the cells that column a needs are added to the first n of `need`; then there are r
-pub record Gathers (hl : ℕ → Bool) (f : ℕ → Act) (a : ℕ) (need : List ℕ) (n : ℕ) (after : List ℕ) (r : ℕ) : Type 0 where
-  pub more : (φ : ℕ → Bool) (b : ℕ) → everyUpto φ b after r ≡ (everyUpto φ b need n && needs φ hl f b a (f a))
-  pub most : r ≤ n + 2
 
 -- base b is no earlier row's, and the cells of `need` are free from it
 abbrev pub testB : Bench → Kind → ℕ → List ℕ → ℕ → ℕ → Bool
@@ -132,6 +135,24 @@ bareJob z srule = jobOf twice z 0 [] srule []
 -- a rule of an entry fits
 abbrev pub RuleLow : Act → Type 0
 RuleLow e = (r : ℕ) → e ≡ rule r → r ≤ 1024
+
+-- what is stored for the entry e: a shift to a state without a cell gives it one, to another is a pointer
+abbrev pub storedOf : Sizes → List ℕ → Written → Stored
+storedOf z places written.Blank = stored.Nothing
+storedOf z places (written.Rule r) = stored.Minus r
+storedOf z places (written.Shift t) = cond (eqb (getD places t 0) 0) (stored.State t) (stored.Minus (z .rules + getD places t 0))
+
+-- the arrays after e is stored for column a at cell c
+abbrev pub storeB : Job → ℕ → ℕ → Stored → Bench → Bench
+storeB J a c stored.Nothing B = B
+storeB J a c (stored.State t) B = settleB J t c (pos a) B
+storeB J a c (stored.Minus n) B = putB c (neg n) (pos a) B
+
+-- the number that is stored negative, 0 where none is
+abbrev pub minusOf : Stored → ℕ
+minusOf stored.Nothing = 0
+minusOf (stored.State t) = 0
+minusOf (stored.Minus n) = n
 
 -- Check, marks and places after state t is settled at cell c, whatever the bases are
 abbrev pub Settled : Sizes → List ℕ → ℕ → ℕ → ℕ → List ℤ → List ℕ → List ℕ → List ℤ → List ℕ → List ℕ → Type 0

@@ -16,9 +16,18 @@ pub enum Written {
     Rule(u32),
 }
 
-// Whether all of placement had room.
-pub enum Placed {
-    Done,
+// What is stored for a written entry: nothing, a state with its two cells, or the negative of a number in Base.
+pub enum Stored {
+    Nothing,
+    State(u32),
+    Minus(u32),
+}
+
+// The base of a row: none where it needs none, that of a state with the same row, one of its own, or none for want of room.
+pub enum RowBase {
+    Empty,
+    Shared(u32),
+    Own(u32),
     NoRoom,
 }
 

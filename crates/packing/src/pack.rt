@@ -12,7 +12,6 @@ ghost use Rattle.packing.specs.Written.{bench};
 ghost use Rattle.packing.specs.Turns.{Sized, Ready};
 ghost use Rattle.packing.specs.Packing.{saidOf, result, arraysFit, countOf, placedBy, packed};
 use crate::Packing;
-use crate::Placed;
 use crate::place::place_all;
 use crate::place::wipe;
 use cells::size::cells_fit;
@@ -70,12 +69,12 @@ fn pack_judged(
     requires { ⌜ Ready z states (now table) (now srule) (now sgoto) × Sized states (bench (now base) (now check) (now marks) (now place)) ⌝ }
     ensures { λ r. ⌜ result (saidOf r) (bench (now (base .exit)) (now (check .exit)) (now (marks .exit)) (now (place .exit))) ≡ placedBy (placementB (jobOf twice z states (now (table .entry)) (now (srule .entry)) (now (sgoto .entry))) (length (now (base .entry))) (bound (jobOf twice z states (now (table .entry)) (now (srule .entry)) (now (sgoto .entry))))) (bench (now (base .entry)) (now (check .entry)) (now (marks .entry)) (now (place .entry))) ⌝ }
 {
-    match place_all(z, states, table, srule, sgoto, base, check, marks, place) {
-        Placed::Done => Packing::Packed(count(marks)),
-        Placed::NoRoom => {
-            wipe(base, check, marks, place, 0);
-            Packing::NoRoom
-        }
+    wipe(base, check, marks, place, z.symbols);
+    if place_all(z, states, table, srule, sgoto, base, check, marks, place) {
+        Packing::Packed(count(marks))
+    } else {
+        wipe(base, check, marks, place, 0);
+        Packing::NoRoom
     }
 }
 

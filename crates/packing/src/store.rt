@@ -1,12 +1,12 @@
 // The stores: a state's two cells, an entry's cell, a row.
 ghost use mathlib.Core.Path.{_≡_};
 ghost use Prim.Native.Nat.{_≤_};
-ghost use lib.ListN.{getD, set};
+ghost use lib.ListN.{getD};
 ghost use Rattle.number.specs.Number.{numberOf};
-ghost use Rattle.number.specs.declared.Signed.the-variants.{Plus};
+ghost use Rattle.tables.specs.Laws.Size.{NumbersFit};
 ghost use Rattle.packing.specs.Job.{signCheck};
-ghost use Rattle.packing.specs.Bench.{writeB};
-ghost use Rattle.packing.specs.Written.{bench, bareJob, actOf, Low, Tame, TameRules, RuleLow, Settled, Housed, Filled};
+ghost use Rattle.packing.specs.Written.{bench, bareJob, actOf, storedOf, storeB, Low, Tame, TameRules, RuleLow, minusOf, Settled, Housed, Filled};
+use crate::Stored;
 use crate::Written;
 use crate::row::written;
 use number::Signed;
@@ -69,16 +69,26 @@ pub(crate) fn house(
     }
 }
 
-// Takes cell c for an entry of column a whose Base is v.
-fn put_entry(base: &mut [i32], check: &mut [i32], marks: &mut [u32], c: usize, v: Signed, a: u32)
-    ensures { λ r. ⌜ (now (base .exit) ≡ set (now (base .entry)) c (numberOf v)) × ((now (check .exit) ≡ set (now (check .entry)) c (numberOf (Plus a))) × (now (marks .exit) ≡ set (now (marks .entry)) c 1)) ⌝ }
+// What is stored for the entry e: a shift to a state without a cell gives it one, to another is a pointer.
+fn stored(z: Sizes, place: &[u32], e: Written) -> Stored
+    requires { ⌜ NumbersFit z × (Low (now place) × RuleLow (actOf e)) ⌝ }
+    ensures { λ r. ⌜ (r ≡ storedOf z (now (place .entry)) e) × (minusOf r ≤ 4001024) ⌝ }
 {
-    number::put_i32(base, c, v);
-    number::put_i32(check, c, Signed::Plus(a));
-    number::put_u32(marks, c, 1);
+    match e {
+        Written::Blank => Stored::Nothing,
+        Written::Rule(r) => Stored::Minus(r),
+        Written::Shift(t) => {
+            let x = number::at_u32(place, t as usize);
+            if x == 0 {
+                Stored::State(t)
+            } else {
+                Stored::Minus(z.rules + x)
+            }
+        }
+    }
 }
 
-// Writes the entry e of column a at cell c.
+// Stores e for column a at cell c.
 fn write_entry(
     z: Sizes,
     srule: &[u32],
@@ -88,23 +98,20 @@ fn write_entry(
     place: &mut [u32],
     a: u32,
     c: usize,
-    e: Written,
+    e: Stored,
 )
-    requires { ⌜ Tame z (now srule) × ((c ≤ 4000000) × ((a ≤ 512) × (Low (now place) × RuleLow (actOf e)))) ⌝ }
-    ensures { λ r. ⌜ (bench (now (base .exit)) (now (check .exit)) (now (marks .exit)) (now (place .exit)) ≡ writeB (bareJob z (now (srule .entry))) a c (actOf e) (bench (now (base .entry)) (now (check .entry)) (now (marks .entry)) (now (place .entry)))) × Low (now (place .exit)) ⌝ }
+    requires { ⌜ Tame z (now srule) × ((c ≤ 4000000) × ((a ≤ 512) × (Low (now place) × (minusOf e ≤ 4001024)))) ⌝ }
+    ensures { λ r. ⌜ (bench (now (base .exit)) (now (check .exit)) (now (marks .exit)) (now (place .exit)) ≡ storeB (bareJob z (now (srule .entry))) a c e (bench (now (base .entry)) (now (check .entry)) (now (marks .entry)) (now (place .entry)))) × Low (now (place .exit)) ⌝ }
 {
     match e {
-        Written::Blank => {}
-        Written::Rule(r) => {
-            put_entry(base, check, marks, c, Signed::Minus(r), a);
+        Stored::Nothing => {}
+        Stored::State(t) => {
+            settle(z, srule, check, marks, place, t, c, a);
         }
-        Written::Shift(t) => {
-            let x = number::at_u32(place, t as usize);
-            if x == 0 {
-                settle(z, srule, check, marks, place, t, c, a);
-            } else {
-                put_entry(base, check, marks, c, Signed::Minus(z.rules + x), a);
-            }
+        Stored::Minus(n) => {
+            number::put_i32(base, c, Signed::Minus(n));
+            number::put_i32(check, c, Signed::Plus(a));
+            number::put_u32(marks, c, 1);
         }
     }
 }
@@ -121,7 +128,7 @@ pub(crate) fn fill(
     place: &mut [u32],
     s: u32,
     goto: bool,
-    b: usize,
+    b: u32,
 )
     requires { ⌜ Tame z (now srule) × (TameRules z (now table) × ((b ≤ 3000001) × Low (now place))) ⌝ }
     ensures { λ r. ⌜ Filled z (now (table .entry)) (now (srule .entry)) (now (sgoto .entry)) s goto b (bench (now (base .entry)) (now (check .entry)) (now (marks .entry)) (now (place .entry))) (bench (now (base .exit)) (now (check .exit)) (now (marks .exit)) (now (place .exit))) × Low (now (place .exit)) ⌝ }
@@ -129,7 +136,7 @@ pub(crate) fn fill(
     let rule = number::at_u32(srule, s as usize);
     let mut a: u32 = 0;
     while a < z.symbols {
-        let e = written(z, table, sgoto, rule, s, goto, a);
+        let e = stored(z, place, written(z, table, sgoto, rule, s, goto, a));
         write_entry(
             z,
             srule,
@@ -138,7 +145,7 @@ pub(crate) fn fill(
             marks,
             place,
             a,
-            b + 2 * a as usize,
+            (b + 2 * a) as usize,
             e,
         );
         a += 1;

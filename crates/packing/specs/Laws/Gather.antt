@@ -1,6 +1,6 @@
 -- The cells that a row needs, gathered into a list. Assumes nothing.
 use mathlib.Core.Path.{_≡_, refl, sym, ap, ap₂, _∙_}
-use mathlib.Core.Bool.{Bool, true, false, not}
+use mathlib.Core.Bool.{Bool, true, false, not, cond}
 use mathlib.Core.List.{List}
 use Prim.Native.Nat.{ℕ, zero, suc, _+_, _*_, _≤_, _<_}
 use native.Mathlib.Omega.{arith}
@@ -14,7 +14,7 @@ use Rattle.packing.specs.Job.{Act, blank, shift, rule, isBlank}
 use mathlib.Core.Bool.{_&&_}
 use Rattle.packing.specs.Rows.{emptyUpto}
 use Rattle.packing.specs.Bench.{seen, needs, needsUpto}
-use Rattle.packing.specs.Written.{everyUpto, Gathers, Gathered}
+use Rattle.packing.specs.Written.{everyUpto, neededBy, Gathered}
 use mathlib.Core.Bool.{and-false, and-true, and-assoc}
 
 -- what is stored at n or above does not matter below n
@@ -29,42 +29,53 @@ every-push : (φ : ℕ → Bool) (b : ℕ) (need : List ℕ) (v n : ℕ) → n <
 every-push φ b need v n h =
     ap₂ _&&_ (every-set φ b need v n n (omega arith)) (ap (λ (d : ℕ). φ (b + d)) (getD-set-same need n v 0 h))
 
-module _ (hl : ℕ → Bool) (f : ℕ → Act) (a : ℕ) (need : List ℕ) (n : ℕ) (low : n ≤ 1022) (size : length need ≡ 1024) where
-  pub gather-blank : f a ≡ blank → Gathers hl f a need n need n
-  gather-blank e = record { more = λ φ b. rw e (sym (and-true (everyUpto φ b need n))); most = omega arith }
+-- how many of two stored cells count
+module _ (φ : ℕ → Bool) (b : ℕ) (need : List ℕ) (n v w : ℕ) (h : n + 1 < length need) where
+  none-of : everyUpto φ b (set (set need n v) (n + 1) w) (n + 0) ≡ everyUpto φ b need n
+  none-of =
+      let q : n + 0 ≡ n = omega arith in
+      rw q (every-set φ b (set need n v) w (n + 1) n (omega arith) ∙ every-set φ b need v n n (omega arith))
 
-  pub gather-rule : (r : ℕ) → f a ≡ rule r → Gathers hl f a need n (set need n (2 * a)) (n + 1)
-  gather-rule r e = record { more = λ φ b. rw (e, add-one n) (every-push φ b need (2 * a) n (omega arith)); most = omega arith }
+  one-of : everyUpto φ b (set (set need n v) (n + 1) w) (n + 1) ≡ _&&_ (everyUpto φ b need n) (φ (b + v))
+  one-of =
+      let one : everyUpto φ b (set need n v) (n + 1) ≡ _&&_ (everyUpto φ b need n) (φ (b + v)) = rw (add-one n) (every-push φ b need v n (omega arith)) in
+      every-set φ b (set need n v) w (n + 1) (n + 1) (omega arith) ∙ one
 
-  pub gather-pointer : (t : ℕ) → f a ≡ shift t → _&&_ (hl t) (not (seen f t a)) ≡ false → Gathers hl f a need n (set need n (2 * a)) (n + 1)
-  gather-pointer t e p =
-      record {
-        more = λ φ b. rw (e, p, add-one n) (every-push φ b need (2 * a) n (omega arith) ∙ ap (_&&_ (everyUpto φ b need n)) (sym (and-true (φ (b + 2 * a)))));
-        most = omega arith;
-      }
-
-  pub gather-home : (t : ℕ) → f a ≡ shift t → _&&_ (hl t) (not (seen f t a)) ≡ true
-      → Gathers hl f a need n (set (set need n (2 * a)) (n + 1) (2 * a + 1)) (n + 2)
-  gather-home t e p =
-      record {
-        more = λ φ b.
-            let q : n + 2 ≡ suc (n + 1) = omega arith in
-            let w : b + (2 * a + 1) ≡ suc (b + 2 * a) = omega arith in
-            let l : n + 1 < length (set need n (2 * a)) = simp length-set (omega arith) in
-            let one : everyUpto φ b (set need n (2 * a)) (n + 1) ≡ _&&_ (everyUpto φ b need n) (φ (b + 2 * a)) = rw (add-one n) (every-push φ b need (2 * a) n (omega arith)) in
-            rw (e, p, q)
-            (every-push φ b (set need n (2 * a)) (2 * a + 1) (n + 1) l
-            ∙ ap₂ _&&_ one (ap φ w)
-            ∙ and-assoc (everyUpto φ b need n) (φ (b + 2 * a)) (φ (suc (b + 2 * a))));
-        most = omega arith;
-      }
+  two-of : everyUpto φ b (set (set need n v) (n + 1) w) (n + 2) ≡ _&&_ (_&&_ (everyUpto φ b need n) (φ (b + v))) (φ (b + w))
+  two-of =
+      let q : n + 2 ≡ suc (n + 1) = omega arith in
+      let l : n + 1 < length (set need n v) = simp length-set (omega arith) in
+      let one : everyUpto φ b (set need n v) (n + 1) ≡ _&&_ (everyUpto φ b need n) (φ (b + v)) = rw (add-one n) (every-push φ b need v n (omega arith)) in
+      rw q (every-push φ b (set need n v) w (n + 1) l ∙ ap (λ (t : Bool). _&&_ t (φ (b + w))) one)
 
 pub gathered-none : (hl : ℕ → Bool) (f : ℕ → Act) (need : List ℕ) → Gathered hl f 0 need 0
 gathered-none hl f need = record { all = λ φ b. refl }
 
-module _ {hl : ℕ → Bool} {f : ℕ → Act} {a : ℕ} {need : List ℕ} {n : ℕ} (g : Gathered hl f a need n) where
-  pub gathered-more : {after : List ℕ} {r : ℕ} → Gathers hl f a need n after r → Gathered hl f (a + 1) after r
-  gathered-more {after} {r} s = record { all = λ φ b. s .more φ b ∙ rw (add-one a, g .all φ b) refl }
+-- the cells of column a are added
+module _ {hl : ℕ → Bool} {f : ℕ → Act} {a : ℕ} {need : List ℕ} {n : ℕ} (g : Gathered hl f a need n) (h : n + 1 < length need) where
+  more : (φ : ℕ → Bool) (b : ℕ) (e : Act) → everyUpto φ b (set (set need n (2 * a)) (n + 1) (2 * a + 1)) (n + neededBy hl f a e) ≡ _&&_ (everyUpto φ b need n) (needs φ hl f b a e)
+  more φ b blank = none-of φ b need n (2 * a) (2 * a + 1) h ∙ sym (and-true (everyUpto φ b need n))
+  more φ b (rule r) = one-of φ b need n (2 * a) (2 * a + 1) h
+  more φ b (shift t) = go (_&&_ (hl t) (not (seen f t a)))
+    where
+      go : (p : Bool) → everyUpto φ b (set (set need n (2 * a)) (n + 1) (2 * a + 1)) (n + cond p 2 1)
+          ≡ _&&_ (everyUpto φ b need n) (_&&_ (φ (b + 2 * a)) (cond p (φ (suc (b + 2 * a))) true))
+      go true =
+          let w : b + (2 * a + 1) ≡ suc (b + 2 * a) = omega arith in
+          two-of φ b need n (2 * a) (2 * a + 1) h
+          ∙ and-assoc (everyUpto φ b need n) (φ (b + 2 * a)) (φ (b + (2 * a + 1)))
+          ∙ ap (λ (c : ℕ). _&&_ (everyUpto φ b need n) (_&&_ (φ (b + 2 * a)) (φ c))) w
+      go false =
+          one-of φ b need n (2 * a) (2 * a + 1) h
+          ∙ ap (_&&_ (everyUpto φ b need n)) (sym (and-true (φ (b + 2 * a))))
+
+  pub gathered-more : (k : ℕ) → k ≡ neededBy hl f a (f a) → Gathered hl f (a + 1) (set (set need n (2 * a)) (n + 1) (2 * a + 1)) (n + k)
+  gathered-more k e =
+      record {
+        all = λ φ b.
+            ap (everyUpto φ b (set (set need n (2 * a)) (n + 1) (2 * a + 1))) (ap (_+_ n) e)
+            ∙ more φ b (f a) ∙ rw (add-one a, g .all φ b) refl;
+      }
 
 -- a row needs a cell exactly where it is not empty
 none-need : (hl : ℕ → Bool) (f : ℕ → Act) (b a : ℕ) → needsUpto (λ c. false) hl f b a ≡ emptyUpto f a

@@ -1,13 +1,13 @@
 -- The code's stores are those of the machine over the arrays. Assumes nothing.
 use mathlib.Core.Path.{_≡_, refl, sym, ap, _∙_}
-use mathlib.Core.Bool.{Bool, true, false}
+use mathlib.Core.Bool.{Bool, true, false, cond}
 use mathlib.Core.Option.{some}
 use mathlib.Core.List.{List, []}
 use Prim.Native.Nat.{ℕ, zero, suc, _+_, _*_, _≤_, _<_}
 use native.Mathlib.Omega.{arith}
 use native.Mathlib.Numerals.{add-one}
 use lib.ListN.{getD, set}
-use lib.Dec.{ltb}
+use lib.Dec.{ltb, eqb}
 use lib.IntN.{ℤ, pos}
 use borrow.Author.Tests.{eq-eqb, ne-eqb, le-leb, lt-ltb, le-ltb}
 use Rattle.number.specs.Number.{numberOf}
@@ -16,11 +16,14 @@ use Rattle.number.specs.declared.Signed.the-variants.{Plus, Minus}
 use Rattle.tables.specs.declared.Sizes.{Sizes}
 use Rattle.cells.specs.Read.{twice}
 use Rattle.packing.specs.declared.Written.{Written}
-use Rattle.packing.specs.Job.{Act, blank, shift, rule, neg, signCheck}
+use Rattle.packing.specs.declared.Written.the-variants as written
+use Rattle.packing.specs.declared.Stored.{Stored}
+use Rattle.packing.specs.declared.Stored.the-variants as stored
+use Rattle.packing.specs.Job.{Act, neg, signCheck}
 use Rattle.packing.specs.Rows.{row}
-use Rattle.packing.specs.Bench.{Bench, settleB, writeB, fillB, houseB}
+use Rattle.packing.specs.Bench.{Bench, putB, settleB, writeB, fillB, houseB}
 use Rattle.packing.specs.Job.{jobOf}
-use Rattle.packing.specs.Written.{bench, asKind, actOf, writtenAt, rowOf, bareJob, Low, Tame, TameRules, RuleLow, Settled, Housed, Filled}
+use Rattle.packing.specs.Written.{bench, asKind, actOf, writtenAt, rowOf, bareJob, storedOf, storeB, minusOf, Low, Tame, TameRules, RuleLow, Settled, Housed, Filled}
 use mathlib.Core.Bool.{and-false}
 use Rattle.packing.specs.Laws.Written.{row-is, rule-low}
 use Rattle.packing.specs.Laws.Everywhere.{everywhere-set}
@@ -93,34 +96,40 @@ module _ (z : Sizes) (L : ℕ) (table : List ℤ) (srule sgoto : List ℕ) where
 
 -- ---- an entry
 
-module _ (z : Sizes) (srule : List ℕ) (a c : ℕ) (base check : List ℤ) (marks place : List ℕ) (e : Act) (base′ check′ : List ℤ) (marks′ place′ : List ℕ) where
-  pub write-blank : e ≡ blank → bench base check marks place ≡ writeB (bareJob z srule) a c e (bench base check marks place)
-  write-blank q = rw q refl
+module _ (z : Sizes) (places : List ℕ) (numbers : z .rules ≤ 1024) (low : Low places) where
+  pub pointer-low : (t : ℕ) → z .rules + getD places t 0 ≤ 4001024
+  pointer-low t = omega (arith, low t)
 
-  pub write-rule : (r : ℕ) → e ≡ rule r → r ≤ 1024 → a ≤ 512
-      → base′ ≡ set base c (numberOf (Minus r)) → check′ ≡ set check c (numberOf (Plus a)) → marks′ ≡ set marks c 1
-      → bench base′ check′ marks′ place ≡ writeB (bareJob z srule) a c e (bench base check marks place)
-  write-rule r q h k e₁ e₂ e₃ = rw (q, e₁, e₂, e₃, minus-fits r (omega arith), plus-fits a (omega arith)) refl
+module _ (z : Sizes) (srule : List ℕ) (a c : ℕ) (base check : List ℤ) (marks place : List ℕ) (e : Stored) where
+  pub store-nothing : e ≡ stored.Nothing → bench base check marks place ≡ storeB (bareJob z srule) a c e (bench base check marks place)
+  store-nothing q = rw q refl
 
-  pub write-home : (t : ℕ) → e ≡ shift t → getD place t 0 ≡ 0 → Settled z srule t c a check marks place check′ marks′ place′
-      → bench base check′ marks′ place′ ≡ writeB (bareJob z srule) a c e (bench base check marks place)
-  write-home t q x s = s base ∙ rw (q, eq-eqb (getD place t 0) 0 x) refl
+  pub store-state : (t : ℕ) → e ≡ stored.State t → (check′ : List ℤ) (marks′ place′ : List ℕ) → Settled z srule t c a check marks place check′ marks′ place′
+      → bench base check′ marks′ place′ ≡ storeB (bareJob z srule) a c e (bench base check marks place)
+  store-state t q check′ marks′ place′ s = s base ∙ rw q refl
 
-  pub write-pointer : (t : ℕ) → e ≡ shift t → (getD place t 0 ≡ 0 → ⊥) → z .rules ≤ 1024 → getD place t 0 ≤ 4000000 → a ≤ 512
-      → base′ ≡ set base c (numberOf (Minus (z .rules + getD place t 0))) → check′ ≡ set check c (numberOf (Plus a)) → marks′ ≡ set marks c 1
-      → bench base′ check′ marks′ place ≡ writeB (bareJob z srule) a c e (bench base check marks place)
-  unfolding jobOf
-  write-pointer t q x g low k e₁ e₂ e₃ =
-      rw (q, ne-eqb (getD place t 0) 0 x, e₁, e₂, e₃, minus-fits (z .rules + getD place t 0) (omega arith), plus-fits a (omega arith)) refl
+  pub store-minus : (n : ℕ) → e ≡ stored.Minus n → minusOf e ≤ 4001024 → a ≤ 512 → (base′ check′ : List ℤ) (marks′ : List ℕ)
+      → base′ ≡ set base c (numberOf (Minus n)) → check′ ≡ set check c (numberOf (Plus a)) → marks′ ≡ set marks c 1
+      → bench base′ check′ marks′ place ≡ storeB (bareJob z srule) a c e (bench base check marks place)
+  store-minus n q h k base′ check′ marks′ e₁ e₂ e₃ =
+      let l : n ≤ 4001024 = rw q at h in
+      rw (q, e₁, e₂, e₃, minus-fits n (omega arith), plus-fits a (omega arith)) refl
 
 -- ---- a row
 
-module _ (z : Sizes) (L : ℕ) (table : List ℤ) (srule sgoto : List ℕ) where
-  write-same : (a c : ℕ) (e : Act) (A : Bench) → writeB (bareJob z srule) a c e A ≡ writeB (jobOf twice z L table srule sgoto) a c e A
+module _ (z : Sizes) (L : ℕ) (table : List ℤ) (srule sgoto : List ℕ) (a c : ℕ) (A : Bench) where
+  by-place : (t : ℕ) (x : Bool)
+      → storeB (bareJob z srule) a c (cond x (stored.State t) (stored.Minus (z .rules + getD (A .places) t 0))) A
+      ≡ cond x (settleB (bareJob z srule) t c (pos a) A) (putB c (neg (z .rules + getD (A .places) t 0)) (pos a) A)
+  by-place t true = refl
+  by-place t false = refl
+
+  -- what is stored for an entry is what the machine writes
+  write-same : (e : Written) → storeB (bareJob z srule) a c (storedOf z (A .places) e) A ≡ writeB (jobOf twice z L table srule sgoto) a c (actOf e) A
   unfolding jobOf
-  write-same a c blank A = refl
-  write-same a c (rule r) A = refl
-  write-same a c (shift t) A = rw (settle-same z L table srule sgoto t c (pos a) A) refl
+  write-same written.Blank = refl
+  write-same (written.Rule r) = refl
+  write-same (written.Shift t) = by-place t (eqb (getD (A .places) t 0) 0) ∙ rw (settle-same z L table srule sgoto t c (pos a) A) refl
 
 -- the columns below a are written
 pub record Writing (z : Sizes) (table : List ℤ) (srule sgoto : List ℕ) (s : ℕ) (g : Bool) (b : ℕ) (A B : Bench) (a : ℕ) : Type 0 where
@@ -133,9 +142,9 @@ module _ {z : Sizes} {table : List ℤ} {srule sgoto : List ℕ} {s : ℕ} {g : 
   write-begin low = record { is = λ L. refl; upto = omega arith; low = low }
 
   module _ {B : Bench} {a : ℕ} (w : Writing z table srule sgoto s g b A B a) where
-    pub write-next : (q : ℕ) (e : Written) (C : Bench) → q ≡ getD srule s 0 → e ≡ writtenAt z table sgoto q s g a → a < z .symbols
-        → C ≡ writeB (bareJob z srule) a (b + 2 * a) (actOf e) B → Low (C .places) → Writing z table srule sgoto s g b A C (a + 1)
-    write-next q e C hq he h hc low = record { is = λ L. next L; upto = omega arith; low = low }
+    pub write-next : (q : ℕ) (e : Written) (d : Stored) (C : Bench) → q ≡ getD srule s 0 → e ≡ writtenAt z table sgoto q s g a → d ≡ storedOf z (B .places) e → a < z .symbols
+        → C ≡ storeB (bareJob z srule) a (b + 2 * a) d B → Low (C .places) → Writing z table srule sgoto s g b A C (a + 1)
+    write-next q e d C hq he hd h hc low = record { is = λ L. next L; upto = omega arith; low = low }
       where
         at : (L : ℕ) → actOf e ≡ row (jobOf twice z L table srule sgoto) (asKind g) s a
         at L =
@@ -144,7 +153,8 @@ module _ {z : Sizes} {table : List ℤ} {srule sgoto : List ℕ} {s : ℕ} {g : 
 
         next : (L : ℕ) → C ≡ fillB (jobOf twice z L table srule sgoto) (asKind g) s b (a + 1) A
         next L =
-            hc ∙ write-same z L table srule sgoto a (b + 2 * a) (actOf e) B
+            hc ∙ ap (λ (x : Stored). storeB (bareJob z srule) a (b + 2 * a) x B) hd
+            ∙ write-same z L table srule sgoto a (b + 2 * a) B e
             ∙ ap (λ (x : Act). writeB (jobOf twice z L table srule sgoto) a (b + 2 * a) x B) (at L)
             ∙ ap (writeB (jobOf twice z L table srule sgoto) a (b + 2 * a) (row (jobOf twice z L table srule sgoto) (asKind g) s a)) (w .is L)
             ∙ ap (λ (n : ℕ). fillB (jobOf twice z L table srule sgoto) (asKind g) s b n A) (sym (add-one a))

@@ -1,9 +1,10 @@
 -- The turn of a row and of a state, put together from the searches and the stores. Assumes nothing.
 use mathlib.Core.Path.{_≡_, refl, sym, ap, ap₂, _∙_}
-use mathlib.Core.Bool.{Bool, true, false, not}
+use mathlib.Core.Bool.{Bool, true, false, not, cond, true≢false}
 use mathlib.Core.Option.{some}
 use mathlib.Core.List.{List, []}
-use Prim.Native.Nat.{ℕ, _≤_}
+use Prim.Native.Nat.{ℕ, zero, suc, _≤_}
+use native.Mathlib.Omega.{arith}
 use lib.ListN.{getD, set}
 use lib.Dec.{eqb}
 use lib.IntN.{ℤ, pos, negsuc}
@@ -15,12 +16,13 @@ use Rattle.cells.specs.Read.{twice}
 use Rattle.cells.specs.Read.{action, goto}
 use Rattle.packing.specs.Job.{Act}
 use mathlib.Core.Bool.{_&&_}
-use Rattle.packing.specs.Rows.{row, rep, plan, emptyUpto}
-use mathlib.Core.Bool.{true≢false}
-use Rattle.packing.specs.Bench.{Bench, freeB, free2B, inside, needsUpto, baseB, natOf, fillB, firstB, tryB, placeB, rowB, homeB, stateB}
+use Rattle.packing.specs.declared.RowBase.{RowBase}
+use Rattle.packing.specs.declared.RowBase.the-variants.{Empty, Shared, Own, NoRoom}
+use Rattle.packing.specs.Rows.{row, rep, Plan, search, plan, emptyUpto}
+use Rattle.packing.specs.Bench.{Bench, freeB, free2B, inside, needsUpto, baseB, natOf, fillB, firstB, tryB, placeB, rowByB, rowB, homeB, stateB}
 use Rattle.packing.specs.Job.{jobOf}
 use Rattle.packing.specs.Written.{bench, kept, asKind, cellOf, rowOf, homelessIn, everyUpto, Gathered, testB, FirstSame, bareJob, Housed, Filled}
-use Rattle.packing.specs.Turns.{Based, Shared, Searched, RowTurn, HomeTurn, StateTurn}
+use Rattle.packing.specs.Turns.{Based, rowAt, ownOf, sharedOf, ownPlan, OwnBased, RowBased, RowTurn, HomeTurn, StateTurn}
 use Rattle.packing.specs.Laws.Written.{row-is}
 use Rattle.packing.specs.Laws.Gather.{empty-is}
 use Rattle.packing.specs.Laws.Search.{used-same}
@@ -33,88 +35,125 @@ pub based : (g : Bool) (s b : ℕ) (base base′ : List ℤ) (place : List ℕ) 
 based true s b base base′ place h e cs ms = rw (e, plus-fits b h) refl
 based false s b base base′ place h e cs ms = rw (e, plus-fits b h) refl
 
-nat-plus : (v : ℤ) → natOf v ≡ plusOf v
-nat-plus (pos n) = refl
-nat-plus (negsuc n) = refl
+-- ---- the base of a row
 
-pub shared : (s r b : ℕ) (base base′ : List ℤ) (place : List ℕ) → b ≡ plusOf (getD base (getD place r 0) (pos 0)) → Based false s b base place base′ → Shared s r base place base′
-shared s r b base base′ place e h cs ms =
-    h cs ms ∙ ap (λ (n : ℕ). baseB action s n (bench base cs ms place)) (e ∙ sym (nat-plus (getD base (getD place r 0) (pos 0))))
-
--- ---- a row that is placed
-
-module _ (z : Sizes) (table : List ℤ) (srule sgoto : List ℕ) (w fuel : ℕ) (g : Bool) (s : ℕ) (base check : List ℤ) (marks place need : List ℕ) (n b : ℕ)
-    (G : Gathered (homelessIn place) (rowOf z table sgoto (getD srule s 0) s g) (z .symbols) need n)
-    (least : b ≡ firstB (testB (bench base [] marks place) (asKind g) s need n) fuel 1 (testB (bench base [] marks place) (asKind g) s need n 1)) where
+module _ (z : Sizes) (table : List ℤ) (srule sgoto : List ℕ) (w fuel : ℕ) (g : Bool) (s : ℕ) (base : List ℤ) (marks place need : List ℕ) (n : ℕ)
+    (G : Gathered (homelessIn place) (rowOf z table sgoto (getD srule s 0) s g) (z .symbols) need n) where
   -- what the gathered cells tell is what the row needs
   needs-is : (L : ℕ) (φ : ℕ → Bool) (x : ℕ) → everyUpto φ x need n ≡ needsUpto φ (homelessIn place) (row (jobOf twice z L table srule sgoto) (asKind g) s) x (z .symbols)
   needs-is L φ x = G .all φ x ∙ ap (λ (f : ℕ → Act). needsUpto φ (homelessIn place) f x (z .symbols)) (row-is z L table srule sgoto s g)
 
-  try-is : (L x : ℕ) → testB (bench base [] marks place) (asKind g) s need n x ≡ tryB (jobOf twice z L table srule sgoto) (asKind g) s (bench base check marks place) x
-  unfolding tryB jobOf
-  try-is L x =
-      ap₂ (λ (u v : Bool). _&&_ (not u) v)
-      (used-same (asKind g) (bench base [] marks place) (bench base check marks place) x s refl refl)
-      (needs-is L (freeB (bench base check marks place)) x)
+  empty-row : (L : ℕ) → emptyUpto (row (jobOf twice z L table srule sgoto) (asKind g) s) (z .symbols) ≡ eqb n 0
+  empty-row L = ap (λ (f : ℕ → Act). emptyUpto f (z .symbols)) (sym (row-is z L table srule sgoto s g)) ∙ empty-is G
 
-  first-is : (L : ℕ)
-      → b ≡ firstB (tryB (jobOf twice z L table srule sgoto) (asKind g) s (bench base check marks place)) fuel 1 (tryB (jobOf twice z L table srule sgoto) (asKind g) s (bench base check marks place) 1)
-  first-is L = least ∙ ap (λ (f : ℕ → Bool). firstB f fuel 1 (f 1)) (λ i. λ x. try-is L x i)
+  pub own-empty : n ≡ 0 → g ≡ true → OwnBased z table srule sgoto w fuel g s base marks place Empty
+  unfolding plan jobOf
+  own-empty e q = record { is = λ L check. sym (rw (q, rw q at (empty-row L) ∙ eq-eqb n 0 e) refl); own = omega arith; shared = omega arith }
 
-  place-is : (L : ℕ) (t : Bool) (C : Bench) → everyUpto (inside w) b need n ≡ t
-      → (t ≡ true → C ≡ fillB (jobOf twice z L table srule sgoto) (asKind g) s b (z .symbols) (baseB (asKind g) s b (bench base check marks place)))
-      → kept t C ≡ placeB (jobOf twice z L table srule sgoto) w (asKind g) s (bench base check marks place) b
-  unfolding jobOf
-  place-is L true C e f = rw (sym (needs-is L (inside w) b) ∙ e) (ap some (f refl))
-  place-is L false C e f = rw (sym (needs-is L (inside w) b) ∙ e) refl
+  search-plan : (L : ℕ) (h : Bool) → g ≡ h → (h ≡ true → n ≡ 0 → ⊥) → ownPlan (jobOf twice z L table srule sgoto) (asKind h) s ≡ search
+  unfolding plan jobOf
+  search-plan L false q h = refl
+  search-plan L true q h = rw (rw q at (empty-row L) ∙ ne-eqb n 0 (h refl)) refl
 
-  pub searched-yes : (base₁ : List ℤ) (C : Bench) → everyUpto (inside w) b need n ≡ true → Based g s b base place base₁
-      → Filled z table srule sgoto s g b (bench base₁ check marks place) C → Searched z table srule sgoto w fuel g s (bench base check marks place) true C
-  searched-yes base₁ C e p f =
+  module _ (b : ℕ) (least : b ≡ firstB (testB (bench base [] marks place) (asKind g) s need n) fuel 1 (testB (bench base [] marks place) (asKind g) s need n 1)) where
+    try-is : (L : ℕ) (check : List ℤ) (x : ℕ)
+        → testB (bench base [] marks place) (asKind g) s need n x ≡ tryB (jobOf twice z L table srule sgoto) (asKind g) s (bench base check marks place) x
+    unfolding tryB jobOf
+    try-is L check x =
+        ap₂ (λ (u v : Bool). _&&_ (not u) v)
+        (used-same (asKind g) (bench base [] marks place) (bench base check marks place) x s refl refl)
+        (needs-is L (freeB (bench base check marks place)) x)
+
+    first-is : (L : ℕ) (check : List ℤ)
+        → b ≡ firstB (tryB (jobOf twice z L table srule sgoto) (asKind g) s (bench base check marks place)) fuel 1 (tryB (jobOf twice z L table srule sgoto) (asKind g) s (bench base check marks place) 1)
+    first-is L check = least ∙ ap (λ (f : ℕ → Bool). firstB f fuel 1 (f 1)) (λ i. λ x. try-is L check x i)
+
+    place-is : (L : ℕ) (check : List ℤ) (t : Bool) → everyUpto (inside w) b need n ≡ t
+        → rowAt (cond t (Own b) NoRoom) (jobOf twice z L table srule sgoto) (asKind g) s (bench base check marks place)
+        ≡ placeB (jobOf twice z L table srule sgoto) w (asKind g) s (bench base check marks place) b
+    unfolding jobOf
+    place-is L check true e = rw (sym (needs-is L (inside w) b) ∙ e) refl
+    place-is L check false e = rw (sym (needs-is L (inside w) b) ∙ e) refl
+
+    module _ (h : g ≡ true → n ≡ 0 → ⊥) where
+      found : (t : Bool) → everyUpto (inside w) b need n ≡ t → (L : ℕ) (check : List ℤ)
+          → rowAt (cond t (Own b) NoRoom) (jobOf twice z L table srule sgoto) (asKind g) s (bench base check marks place)
+          ≡ rowByB (ownPlan (jobOf twice z L table srule sgoto) (asKind g) s) (jobOf twice z L table srule sgoto) w fuel (asKind g) s (bench base check marks place)
+      found t e L check =
+          place-is L check t e
+          ∙ ap (placeB (jobOf twice z L table srule sgoto) w (asKind g) s (bench base check marks place)) (first-is L check)
+          ∙ ap (λ (p : Plan). rowByB p (jobOf twice z L table srule sgoto) w fuel (asKind g) s (bench base check marks place)) (sym (search-plan L g refl h))
+
+      pub own-found : everyUpto (inside w) b need n ≡ true → b ≤ 3000001 → OwnBased z table srule sgoto w fuel g s base marks place (Own b)
+      own-found e l = record { is = found true e; own = l; shared = omega arith }
+
+      pub own-none : everyUpto (inside w) b need n ≡ false → OwnBased z table srule sgoto w fuel g s base marks place NoRoom
+      own-none e = record { is = found false e; own = omega arith; shared = omega arith }
+
+nat-plus : (v : ℤ) → natOf v ≡ plusOf v
+nat-plus (pos n) = refl
+nat-plus (negsuc n) = refl
+
+module _ (z : Sizes) (table : List ℤ) (srule sgoto : List ℕ) (w fuel : ℕ) (g : Bool) (s : ℕ) (base : List ℤ) (marks place : List ℕ) where
+  by-plan : (r : RowBase) → ((L : ℕ) → ownPlan (jobOf twice z L table srule sgoto) (asKind g) s ≡ plan (jobOf twice z L table srule sgoto) (asKind g) s)
+      → OwnBased z table srule sgoto w fuel g s base marks place r → RowBased z table srule sgoto w fuel g s base marks place r
+  unfolding rowB
+  by-plan r e h =
       record {
-        is = λ L.
-            place-is L true C e (λ q. f L ∙ ap (fillB (jobOf twice z L table srule sgoto) (asKind g) s b (z .symbols)) (p check marks))
-            ∙ ap (placeB (jobOf twice z L table srule sgoto) w (asKind g) s (bench base check marks place)) (first-is L);
+        is = λ L check. h .is L check ∙ ap (λ (p : Plan). rowByB p (jobOf twice z L table srule sgoto) w fuel (asKind g) s (bench base check marks place)) (e L);
+        own = h .own;
+        shared = h .shared;
       }
 
-  pub searched-no : (C : Bench) → everyUpto (inside w) b need n ≡ false → Searched z table srule sgoto w fuel g s (bench base check marks place) false C
-  searched-no C e =
-      record {
-        is = λ L.
-            place-is L false C e (λ q. absurd (true≢false (sym q)))
-            ∙ ap (placeB (jobOf twice z L table srule sgoto) w (asKind g) s (bench base check marks place)) (first-is L);
-      }
+  pub goto-based : (r : RowBase) → g ≡ true → OwnBased z table srule sgoto w fuel g s base marks place r → RowBased z table srule sgoto w fuel g s base marks place r
+  goto-based r e = by-plan r (λ L. at L g e)
+    where
+      at : (L : ℕ) (g : Bool) → g ≡ true → ownPlan (jobOf twice z L table srule sgoto) (asKind g) s ≡ plan (jobOf twice z L table srule sgoto) (asKind g) s
+      at L true e = refl
+      at L false e = absurd (true≢false (sym e))
+
+  module _ (q : ℕ) (f : FirstSame z table srule s q) (e : g ≡ false) where
+    first-plan : q ≡ s → (L : ℕ) (g : Bool) → g ≡ false → ownPlan (jobOf twice z L table srule sgoto) (asKind g) s ≡ plan (jobOf twice z L table srule sgoto) (asKind g) s
+    unfolding plan
+    first-plan h L true e = absurd (true≢false e)
+    first-plan h L false e = sym (rw (eq-eqb (rep (jobOf twice z L table srule sgoto) action s) s (sym (f L sgoto) ∙ h)) refl)
+
+    pub action-based : (r : RowBase) → q ≡ s → OwnBased z table srule sgoto w fuel g s base marks place r → RowBased z table srule sgoto w fuel g s base marks place r
+    action-based r h = by-plan r (λ L. first-plan h L g e)
+
+    share-plan : (b : ℕ) → (q ≡ s → ⊥) → b ≡ plusOf (getD base (getD place q 0) (pos 0)) → (L : ℕ) (check : List ℤ) (g : Bool) → g ≡ false
+        → rowAt (Shared b) (jobOf twice z L table srule sgoto) (asKind g) s (bench base check marks place) ≡ rowB (jobOf twice z L table srule sgoto) w fuel (asKind g) s (bench base check marks place)
+    unfolding rowB plan
+    share-plan b n p L check true e = absurd (true≢false e)
+    share-plan b n p L check false e =
+        ap (λ (m : ℕ). some (baseB action s m (bench base check marks place))) (p ∙ sym (nat-plus (getD base (getD place q 0) (pos 0))))
+        ∙ sym (rw (ne-eqb (rep (jobOf twice z L table srule sgoto) action s) s (λ x. n (f L sgoto ∙ x)), ← f L sgoto) refl)
+
+    pub shared-based : (b : ℕ) → (q ≡ s → ⊥) → b ≡ plusOf (getD base (getD place q 0) (pos 0)) → b ≤ 2147483647 → RowBased z table srule sgoto w fuel g s base marks place (Shared b)
+    shared-based b n p l = record { is = λ L check. share-plan b n p L check g e; own = omega arith; shared = l }
 
 -- ---- the turn of a row
 
-module _ (z : Sizes) (table : List ℤ) (srule sgoto : List ℕ) (w fuel s : ℕ) where
-  pub action-search : (A B : Bench) (r : ℕ) (q : Bool) → FirstSame z table srule s r → r ≡ s
-      → Searched z table srule sgoto w fuel false s A q B → RowTurn z table srule sgoto w fuel false s A q B
-  unfolding rowB plan
-  action-search A B r q f e h =
-      record { is = λ L. h .is L ∙ sym (rw (eq-eqb (rep (jobOf twice z L table srule sgoto) action s) s (sym (f L sgoto) ∙ e)) refl) }
+module _ (z : Sizes) (table : List ℤ) (srule sgoto : List ℕ) (w fuel : ℕ) (g : Bool) (s : ℕ) (base check : List ℤ) (marks place : List ℕ) (r : RowBase)
+    (h : RowBased z table srule sgoto w fuel g s base marks place r) where
+  pub row-empty : r ≡ Empty → RowTurn z table srule sgoto w fuel g s (bench base check marks place) true (bench base check marks place)
+  row-empty e = record { is = λ L. rw e at (h .is L check) }
 
-  pub action-share : (base check base′ : List ℤ) (marks place : List ℕ) (r : ℕ) → FirstSame z table srule s r → (r ≡ s → ⊥) → Shared s r base place base′
-      → RowTurn z table srule sgoto w fuel false s (bench base check marks place) true (bench base′ check marks place)
-  unfolding rowB plan
-  action-share base check base′ marks place r f e h =
+  pub row-none : r ≡ NoRoom → (B : Bench) → RowTurn z table srule sgoto w fuel g s (bench base check marks place) false B
+  row-none e B = record { is = λ L. rw e at (h .is L check) }
+
+  pub row-shared : (b : ℕ) (base₁ : List ℤ) → r ≡ Shared b → Based g s b base place base₁ → RowTurn z table srule sgoto w fuel g s (bench base check marks place) true (bench base₁ check marks place)
+  row-shared b base₁ e p = record { is = λ L. ap some (p check marks) ∙ rw e at (h .is L check) }
+
+  pub row-own : (b : ℕ) (base₁ : List ℤ) (B : Bench) → r ≡ Own b → Based g s b base place base₁ → Filled z table srule sgoto s g b (bench base₁ check marks place) B
+      → RowTurn z table srule sgoto w fuel g s (bench base check marks place) true B
+  unfolding jobOf
+  row-own b base₁ B e p f =
       record {
         is = λ L.
-            ap some (h check marks)
-            ∙ sym (rw (ne-eqb (rep (jobOf twice z L table srule sgoto) action s) s (λ x. e (f L sgoto ∙ x)), ← f L sgoto) refl);
+            ap some (f L ∙ ap (fillB (jobOf twice z L table srule sgoto) (asKind g) s b (z .symbols)) (p check marks))
+            ∙ rw e at (h .is L check);
       }
-
-  module _ (places need : List ℕ) (n : ℕ) (G : Gathered (homelessIn places) (rowOf z table sgoto (getD srule s 0) s true) (z .symbols) need n) where
-    empty-row : (L : ℕ) → emptyUpto (row (jobOf twice z L table srule sgoto) goto s) (z .symbols) ≡ eqb n 0
-    empty-row L = ap (λ (f : ℕ → Act). emptyUpto f (z .symbols)) (sym (row-is z L table srule sgoto s true)) ∙ empty-is G
-
-    pub goto-skip : (A : Bench) → n ≡ 0 → RowTurn z table srule sgoto w fuel true s A true A
-    unfolding rowB plan jobOf
-    goto-skip A e = record { is = λ L. sym (rw (empty-row L ∙ eq-eqb n 0 e) refl) }
-
-    pub goto-search : (A B : Bench) (q : Bool) → (n ≡ 0 → ⊥) → Searched z table srule sgoto w fuel true s A q B → RowTurn z table srule sgoto w fuel true s A q B
-    unfolding rowB plan jobOf
-    goto-search A B q e h = record { is = λ L. h .is L ∙ sym (rw (empty-row L ∙ ne-eqb n 0 e) refl) }
 
 -- ---- the cell of a state
 

@@ -1,7 +1,7 @@
 -- All states, all signed targets, and all of placement. Assumes nothing.
 use mathlib.Core.Path.{_≡_, refl, sym, ap, _∙_}
 use mathlib.Core.Bool.{Bool, true, false}
-use mathlib.Core.Option.{none}
+use mathlib.Core.Option.{Option, none, some}
 use mathlib.Core.Logic.{⊎-elim}
 use mathlib.Core.List.{List}
 use Prim.Native.Nat.{ℕ, zero, suc, _+_, _-_, _*_, _≤_, _<_}
@@ -16,10 +16,10 @@ use Rattle.tables.specs.declared.Sizes.{Sizes}
 use Rattle.cells.specs.Read.{twice}
 use Rattle.packing.specs.Job.{Job}
 use Rattle.packing.specs.Packed.{bound}
-use Rattle.packing.specs.Bench.{Bench, statesB, houseB, targetB, targetsB, blankB, placementB}
+use Rattle.packing.specs.Bench.{Bench, bindB, statesB, houseB, targetB, targetsB, blankB, placementB}
 use Rattle.packing.specs.Job.{jobOf}
 use Rattle.packing.specs.Written.{bench, kept, bareJob, Low, Housed}
-use Rattle.packing.specs.Turns.{wiped, Sized, StateTurn, StatesTurn, TargetTurn, TargetsTurn}
+use Rattle.packing.specs.Turns.{wiped, Sized, StateTurn, StatesTurn, TargetsTurn, FixedTurn}
 use Rattle.packing.specs.Laws.Store.{plus-fits, house-same}
 use Rattle.packing.specs.Laws.Ready.{low-none}
 
@@ -57,18 +57,6 @@ targets-none J w m (suc n) A e h =
     (λ (l : m < suc n). rw (targets-none J w m n A e (omega arith)) refl)
     (eq-or-lt-of-le h)
 
-module _ (z : Sizes) (srule : List ℕ) (w x t : ℕ) (check : List ℤ) (marks place : List ℕ) where
-  pub target-none : t ≡ 0 → TargetTurn z srule w x t check marks place true check marks place
-  target-none e = record { is = λ bs. rw e refl }
-
-  pub target-housed : (t ≡ 0 → ⊥) → (r : Bool) (check′ : List ℤ) (marks′ place′ : List ℕ) → Housed z srule w t (2 * x) x check marks place r check′ marks′ place′
-      → TargetTurn z srule w x t check marks place r check′ marks′ place′
-  target-housed n r check′ marks′ place′ h = record { is = λ bs. h .is bs ∙ at t n bs }
-    where
-      at : (t : ℕ) → (t ≡ 0 → ⊥) → (bs : List ℤ) → houseB (bareJob z srule) w t (2 * x) (pos x) (bench bs check marks place) ≡ targetB (bareJob z srule) w x t (bench bs check marks place)
-      at zero n bs = absurd (n refl)
-      at (suc t) n bs = unfold jobOf in refl
-
 target-same : (z : Sizes) (L : ℕ) (table : List ℤ) (srule sgoto : List ℕ) (w x t : ℕ) (A : Bench) → targetB (bareJob z srule) w x t A ≡ targetB (jobOf twice z L table srule sgoto) w x t A
 target-same z L table srule sgoto w x zero A = refl
 target-same z L table srule sgoto w x (suc t) A = unfold jobOf in house-same z L table srule sgoto w (suc t) (2 * x) (pos x) A
@@ -77,28 +65,55 @@ module _ {z : Sizes} {srule sgoto : List ℕ} {w : ℕ} {check : List ℤ} {mark
   pub targets-begin : TargetsTurn z srule sgoto w 0 check marks place true check marks place
   targets-begin = record { is = λ L table bs. refl }
 
-  module _ {n : ℕ} {check₁ check₂ : List ℤ} {marks₁ place₁ marks₂ place₂ : List ℕ} {r : Bool} (t : TargetsTurn z srule sgoto w n check marks place true check₁ marks₁ place₁) (q : ℕ)
-      (e : q ≡ getD sgoto n 0) (u : TargetTurn z srule w (z .terminals + n) q check₁ marks₁ place₁ r check₂ marks₂ place₂) where
-    one : (L : ℕ) (table bs : List ℤ) → kept r (bench bs check₂ marks₂ place₂) ≡ targetsB (jobOf twice z L table srule sgoto) w (suc n) (bench bs check marks place)
+  module _ {n : ℕ} {check₁ : List ℤ} {marks₁ place₁ : List ℕ} (t : TargetsTurn z srule sgoto w n check marks place true check₁ marks₁ place₁) {q : ℕ} (e : q ≡ getD sgoto n 0) where
+    one : (L : ℕ) (table bs : List ℤ) → targetB (bareJob z srule) w (z .terminals + n) q (bench bs check₁ marks₁ place₁) ≡ targetsB (jobOf twice z L table srule sgoto) w (suc n) (bench bs check marks place)
     unfolding jobOf
     one L table bs =
         let k : z .terminals + n - z .terminals ≡ n = omega arith in
-        u .is bs ∙ target-same z L table srule sgoto w (z .terminals + n) q (bench bs check₁ marks₁ place₁)
+        target-same z L table srule sgoto w (z .terminals + n) q (bench bs check₁ marks₁ place₁)
         ∙ rw (← t .is L table bs, k, ← e) refl
 
-  module _ {n : ℕ} {check₁ check₂ : List ℤ} {marks₁ place₁ marks₂ place₂ : List ℕ} (t : TargetsTurn z srule sgoto w n check marks place true check₁ marks₁ place₁) {q : ℕ} (e : q ≡ getD sgoto n 0) where
-    pub targets-next : TargetTurn z srule w (z .terminals + n) q check₁ marks₁ place₁ true check₂ marks₂ place₂
-        → TargetsTurn z srule sgoto w (n + 1) check marks place true check₂ marks₂ place₂
-    targets-next u = record { is = λ L table bs. rw (add-one n) (one t q e u L table bs) }
+    pub targets-skip : q ≡ 0 → TargetsTurn z srule sgoto w (n + 1) check marks place true check₁ marks₁ place₁
+    targets-skip h =
+        let k : (L : ℕ) (table bs : List ℤ) → targetB (bareJob z srule) w (z .terminals + n) 0 (bench bs check₁ marks₁ place₁) ≡ targetsB (jobOf twice z L table srule sgoto) w (suc n) (bench bs check marks place) = rw h at one in
+        record { is = λ L table bs. rw (add-one n) (k L table bs) }
 
-    pub targets-stop : {m : ℕ} → n < m → TargetTurn z srule w (z .terminals + n) q check₁ marks₁ place₁ false check₂ marks₂ place₂
-        → TargetsTurn z srule sgoto w m check marks place false check₂ marks₂ place₂
-    targets-stop {m} h u =
-        record { is = λ L table bs. sym (targets-none (jobOf twice z L table srule sgoto) w (suc n) m (bench bs check marks place) (sym (one t q e u L table bs)) h) }
+    module _ (h : q ≡ 0 → ⊥) {check₂ : List ℤ} {marks₂ place₂ : List ℕ} where
+      housed : {r : Bool} → Housed z srule w q (2 * (z .terminals + n)) (z .terminals + n) check₁ marks₁ place₁ r check₂ marks₂ place₂
+          → (L : ℕ) (table bs : List ℤ) → kept r (bench bs check₂ marks₂ place₂) ≡ targetsB (jobOf twice z L table srule sgoto) w (suc n) (bench bs check marks place)
+      housed u L table bs = u .is bs ∙ at q h bs ∙ one L table bs
+        where
+          at : (t : ℕ) → (t ≡ 0 → ⊥) → (bs : List ℤ)
+              → houseB (bareJob z srule) w t (2 * (z .terminals + n)) (pos (z .terminals + n)) (bench bs check₁ marks₁ place₁) ≡ targetB (bareJob z srule) w (z .terminals + n) t (bench bs check₁ marks₁ place₁)
+          at zero h bs = absurd (h refl)
+          at (suc t) h bs = unfold jobOf in refl
+
+      pub targets-next : Housed z srule w q (2 * (z .terminals + n)) (z .terminals + n) check₁ marks₁ place₁ true check₂ marks₂ place₂
+          → TargetsTurn z srule sgoto w (n + 1) check marks place true check₂ marks₂ place₂
+      targets-next u = record { is = λ L table bs. rw (add-one n) (housed u L table bs) }
+
+      pub targets-stop : {m : ℕ} → n < m → Housed z srule w q (2 * (z .terminals + n)) (z .terminals + n) check₁ marks₁ place₁ false check₂ marks₂ place₂
+          → TargetsTurn z srule sgoto w m check marks place false check₂ marks₂ place₂
+      targets-stop {m} l u =
+          record { is = λ L table bs. sym (targets-none (jobOf twice z L table srule sgoto) w (suc n) m (bench bs check marks place) (sym (housed u L table bs)) l) }
 
   pub targets-end : {n m : ℕ} {check₁ : List ℤ} {marks₁ place₁ : List ℕ} → TargetsTurn z srule sgoto w n check marks place true check₁ marks₁ place₁ → n ≤ m → m ≤ n
       → TargetsTurn z srule sgoto w m check marks place true check₁ marks₁ place₁
   targets-end {n} {m} t h k = let e : n ≡ m = omega arith in rw (← e) t
+
+-- ---- state 0 and the signed targets
+
+module _ (z : Sizes) (srule sgoto : List ℕ) (w : ℕ) (check check₁ : List ℤ) (marks place marks₁ place₁ : List ℕ) where
+  first : (r : Bool) → Housed z srule w 0 0 (z .symbols) check marks place r check₁ marks₁ place₁ → (L : ℕ) (table bs : List ℤ)
+      → houseB (jobOf twice z L table srule sgoto) w 0 0 (pos (z .symbols)) (bench bs check marks place) ≡ kept r (bench bs check₁ marks₁ place₁)
+  first r h L table bs = sym (h .is bs ∙ house-same z L table srule sgoto w 0 0 (pos (z .symbols)) (bench bs check marks place))
+
+  pub fixed-none : (n : ℕ) → Housed z srule w 0 0 (z .symbols) check marks place false check₁ marks₁ place₁ → FixedTurn z srule sgoto w n check marks place false check₁ marks₁ place₁
+  fixed-none n h = record { is = λ L table bs. sym (rw (first false h L table bs) refl) }
+
+  pub fixed-is : (n : ℕ) (r : Bool) (check₂ : List ℤ) (marks₂ place₂ : List ℕ) → Housed z srule w 0 0 (z .symbols) check marks place true check₁ marks₁ place₁
+      → TargetsTurn z srule sgoto w n check₁ marks₁ place₁ r check₂ marks₂ place₂ → FixedTurn z srule sgoto w n check marks place r check₂ marks₂ place₂
+  fixed-is n r check₂ marks₂ place₂ h t = record { is = λ L table bs. t .is L table bs ∙ sym (rw (first true h L table bs) refl) }
 
 -- ---- all of it
 
@@ -110,46 +125,37 @@ unfolding wiped
 wiped-is empty base check base′ check′ marks place marks′ place′ h e₁ e₂ e₃ e₄ =
     rw (e₁, e₂, e₃, e₄, plus-fits 0 (omega arith), plus-fits empty (omega arith)) refl
 
-pub wiped-low : (empty : ℕ) (A B : Bench) → B ≡ wiped empty A → Low (B .places)
-unfolding wiped
-wiped-low empty A B e = rw e (low-none (length (A .places)))
+-- wiped arrays of the right lengths are the blank ones
+pub blank-is : (z : Sizes) (states : ℕ) (table : List ℤ) (srule sgoto : List ℕ) (A B : Bench) → Sized states A → B ≡ wiped (z .symbols) A
+    → B ≡ blankB (jobOf twice z states table srule sgoto) (length (A .bases))
+unfolding blankB jobOf wiped
+blank-is z states table srule sgoto A B sized e = e ∙ rw (sized .checks, sized .marks, sized .places) refl
 
-module _ (z : Sizes) (states : ℕ) (table : List ℤ) (srule sgoto : List ℕ) (A : Bench) (sized : Sized states A)
-    (base₀ check₀ : List ℤ) (marks₀ place₀ : List ℕ) (wipe : bench base₀ check₀ marks₀ place₀ ≡ wiped (z .symbols) A)
-    (r : Bool) (check₁ : List ℤ) (marks₁ place₁ : List ℕ) (house : Housed z srule (length (A .bases)) 0 0 (z .symbols) check₀ marks₀ place₀ r check₁ marks₁ place₁) where
-  blank-is : bench base₀ check₀ marks₀ place₀ ≡ blankB (jobOf twice z states table srule sgoto) (length (A .bases))
-  unfolding blankB jobOf wiped
-  blank-is = wipe ∙ rw (sized .checks, sized .marks, sized .places) refl
+pub blank-low : (J : Job) (w : ℕ) (A : Bench) → A ≡ blankB J w → Low (A .places)
+unfolding blankB
+blank-low J w A e = rw e (low-none (J .states))
 
-  house-is : houseB (jobOf twice z states table srule sgoto) (length (A .bases)) 0 0 (pos (jobOf twice z states table srule sgoto .syms)) (blankB (jobOf twice z states table srule sgoto) (length (A .bases)))
-      ≡ kept r (bench base₀ check₁ marks₁ place₁)
-  unfolding jobOf
-  house-is =
-      sym (house .is base₀ ∙ house-same z states table srule sgoto (length (A .bases)) 0 0 (pos (z .symbols)) (bench base₀ check₀ marks₀ place₀)
-      ∙ ap (houseB (jobOf twice z states table srule sgoto) (length (A .bases)) 0 0 (pos (z .symbols))) blank-is)
+module _ (z : Sizes) (states : ℕ) (table : List ℤ) (srule sgoto : List ℕ) (base check : List ℤ) (marks place : List ℕ)
+    (blank : bench base check marks place ≡ blankB (jobOf twice z states table srule sgoto) (length base))
+    (r : Bool) (check₁ : List ℤ) (marks₁ place₁ : List ℕ) (fixed : FixedTurn z srule sgoto (length base) (z .symbols - z .terminals) check marks place r check₁ marks₁ place₁) where
+  joined : (o : Option Bench) (t s : Bench → Option Bench) → bindB o (λ B. bindB (t B) s) ≡ bindB (bindB o t) s
+  joined none t s = refl
+  joined (some B) t s = refl
 
-  pub placed-none : r ≡ false → none ≡ placementB (jobOf twice z states table srule sgoto) (length (A .bases)) (bound (jobOf twice z states table srule sgoto))
-  unfolding placementB
-  placed-none e = sym (rw (house-is, e) refl)
+  from-fixed : placementB (jobOf twice z states table srule sgoto) (length base) (bound (jobOf twice z states table srule sgoto))
+      ≡ bindB (kept r (bench base check₁ marks₁ place₁)) (statesB (jobOf twice z states table srule sgoto) (length base) (2 * z .symbols + states * (4 * z .symbols + 4)) states)
+  unfolding placementB jobOf bound
+  from-fixed =
+      rw (← blank)
+      (joined (houseB (jobOf twice z states table srule sgoto) (length base) 0 0 (pos (z .symbols)) (bench base check marks place))
+      (targetsB (jobOf twice z states table srule sgoto) (length base) (z .symbols - z .terminals))
+      (statesB (jobOf twice z states table srule sgoto) (length base) (2 * z .symbols + states * (4 * z .symbols + 4)) states)
+      ∙ ap (λ (o : Option Bench). bindB o (statesB (jobOf twice z states table srule sgoto) (length base) (2 * z .symbols + states * (4 * z .symbols + 4)) states)) (sym (fixed .is states table base)))
 
-  module _ (e : r ≡ true) (q : Bool) (check₂ : List ℤ) (marks₂ place₂ : List ℕ)
-      (targets : TargetsTurn z srule sgoto (length (A .bases)) (z .symbols - z .terminals) check₁ marks₁ place₁ q check₂ marks₂ place₂) where
-    targets-is : targetsB (jobOf twice z states table srule sgoto) (length (A .bases)) (jobOf twice z states table srule sgoto .syms - jobOf twice z states table srule sgoto .terms) (bench base₀ check₁ marks₁ place₁)
-        ≡ kept q (bench base₀ check₂ marks₂ place₂)
-    unfolding jobOf
-    targets-is = sym (targets .is states table base₀)
+  pub placed-none : r ≡ false → none ≡ placementB (jobOf twice z states table srule sgoto) (length base) (bound (jobOf twice z states table srule sgoto))
+  placed-none e = sym (from-fixed ∙ rw e refl)
 
-    pub placed-stop : q ≡ false → none ≡ placementB (jobOf twice z states table srule sgoto) (length (A .bases)) (bound (jobOf twice z states table srule sgoto))
-    unfolding placementB
-    placed-stop f = sym (rw (house-is, e, targets-is, f) refl)
-
-    module _ (f : q ≡ true) (p : Bool) (B : Bench)
-        (turns : StatesTurn z table srule sgoto (length (A .bases)) (2 * z .symbols + states * (4 * z .symbols + 4)) states (bench base₀ check₂ marks₂ place₂) p B) where
-      turns-is : statesB (jobOf twice z states table srule sgoto) (length (A .bases)) (bound (jobOf twice z states table srule sgoto)) (jobOf twice z states table srule sgoto .states) (bench base₀ check₂ marks₂ place₂)
-          ≡ kept p B
-      unfolding jobOf bound
-      turns-is = sym (turns .is states)
-
-      pub placed-is : kept p B ≡ placementB (jobOf twice z states table srule sgoto) (length (A .bases)) (bound (jobOf twice z states table srule sgoto))
-      unfolding placementB
-      placed-is = sym (rw (house-is, e, targets-is, f) turns-is)
+  pub placed-is : r ≡ true → (p : Bool) (B : Bench)
+      → StatesTurn z table srule sgoto (length base) (2 * z .symbols + states * (4 * z .symbols + 4)) states (bench base check₁ marks₁ place₁) p B
+      → kept p B ≡ placementB (jobOf twice z states table srule sgoto) (length base) (bound (jobOf twice z states table srule sgoto))
+  placed-is e p B turns = turns .is states ∙ sym (from-fixed ∙ rw e refl)

@@ -25,19 +25,24 @@ loop-holds c = (c .at-u32 .ensures, write-begin (c .before .before .before .befo
 written-requires : tie.Need-written-requires Inv-loop μ-loop
 written-requires c κs = search needs
 
-cast-write-entry : tie.Need-cast-write-entry Inv-loop μ-loop
-cast-write-entry c = omega arith
+stored-requires : tie.Need-stored-requires Inv-loop μ-loop
+stored-requires c κs =
+    let i = c .before .before .before .before .loop .inv in
+    (c .before .before .before .before .before .before .before .before .before .before .pre .0 .numbers, (i .1 .low, rule-fits (i .1) (c .before .before .before .before .before .before .before .before .before .before .pre .1 .0) _ _ (i .0) (c .written .ensures)))
 
 mul-write-entry : tie.Need-mul-write-entry Inv-loop μ-loop
-mul-write-entry c = search needs
+mul-write-entry c = let m = c .before .before .before .before .before .before .before .before .before .before .before .before .before .before .before .pre .0 .numbers .symbols .most in omega arith
 
 add-write-entry : tie.Need-add-write-entry Inv-loop μ-loop
-add-write-entry c = omega arith
+add-write-entry c = let m = c .before .before .before .before .before .before .before .before .before .before .before .before .before .before .before .pre .0 .numbers .symbols .most in omega arith
+
+cast-write-entry : tie.Need-cast-write-entry Inv-loop μ-loop
+cast-write-entry c = let m = c .before .before .before .before .before .before .before .before .before .before .before .before .before .before .before .pre .0 .numbers .symbols .most in omega arith
 
 write-entry-requires : tie.Need-write-entry-requires Inv-loop μ-loop
 write-entry-requires c κs =
-    let m = c .before .before .before .before .before .before .before .before .before .before .before .before .before .pre .0 .numbers .symbols .most in
-    (c .before .before .before .before .before .before .before .before .before .before .before .before .before .pre .0, (omega arith, (omega arith, (c .before .before .before .before .before .before .before .loop .inv .1 .low, rule-fits (c .before .before .before .before .before .before .before .loop .inv .1) (c .before .before .before .before .before .before .before .before .before .before .before .before .before .pre .1 .0) _ _ (c .before .before .before .before .before .before .before .loop .inv .0) (c .before .before .before .before .written .ensures)))))
+    let m = c .before .before .before .before .before .before .before .before .before .before .before .before .before .before .before .pre .0 .numbers .symbols .most in
+    (c .before .before .before .before .before .before .before .before .before .before .before .before .before .before .before .pre .0, (omega arith, (omega arith, (c .before .before .before .before .before .before .before .before .before .loop .inv .1 .low, c .before .before .before .before .stored .ensures .1))))
 
 add-a : tie.Need-add-a Inv-loop μ-loop
 add-a c = omega arith
@@ -47,10 +52,10 @@ loop-less c = omega arith
 
 loop-again : tie.Need-loop-again Inv-loop μ-loop
 loop-again c =
-    let i = c .before .before .before .before .before .before .before .before .before .before .before .before .before .before .loop .inv in
+    let i = c .before .before .before .before .before .before .before .before .before .before .before .before .before .before .before .before .loop .inv in
     let r = c .before .before .before .before .before .before .write-entry in (
       i .0,
-      write-next (i .1) _ (c .before .before .before .before .before .before .before .before .before .before .before .written .result) _ (i .0) (c .before .before .before .before .before .before .before .before .before .before .before .written .ensures) (c .before .before .before .before .before .before .before .before .before .before .before .before .if1 .taken) (r .ensures .0) (r .ensures .1),
+      write-next (i .1) _ (c .before .before .before .before .before .before .before .before .before .before .before .before .written .result) _ _ (i .0) (c .before .before .before .before .before .before .before .before .before .before .before .before .written .ensures) (c .before .before .before .before .before .before .before .before .before .before .before .stored .ensures .0) (c .before .before .before .before .before .before .before .before .before .before .before .before .before .before .if1 .taken) (r .ensures .0) (r .ensures .1),
       r .kept .1 .1 .0 ∙ i .2,
       r .kept .1 .1 .1 .0 ∙ i .3,
       r .kept .1 .1 .1 .1 .0 ∙ i .4,
@@ -81,9 +86,10 @@ fill-spec =
     at-u32-requires
     loop-holds
     written-requires
-    cast-write-entry
+    stored-requires
     mul-write-entry
     add-write-entry
+    cast-write-entry
     write-entry-requires
     add-a
     loop-less

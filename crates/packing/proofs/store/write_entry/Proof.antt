@@ -1,9 +1,5 @@
-use mathlib.Core.Path.{ap, sym, _∙_}
-use Prim.Native.Nat.{_≤_}
-use native.Mathlib.Omega.{arith}
 use borrow.Author.Needs.{needs}
-use Rattle.packing.specs.Laws.Store.{write-blank, write-rule, write-home, write-pointer, settled-low}
-use Rattle.packing.specs.Written.{actOf}
+use Rattle.packing.specs.Laws.Store.{store-nothing, store-state, store-minus, settled-low}
 use Rattle.packing.proofs.store.write_entry.Statement.{statement}
 use Rattle.packing.proofs.store.write_entry.Tie as tie
 
@@ -13,85 +9,57 @@ enum-told c = search needs
 enum-known-e : tie.Need-enum-known-e
 enum-known-e c = search needs
 
-put-entry-requires : tie.Need-put-entry-requires
-put-entry-requires c κs = search needs
+settle-requires : tie.Need-settle-requires
+settle-requires c κs = (c .before .before .before .before .before .before .before .before .before .pre .0, (c .before .before .before .before .before .before .before .before .before .pre .1 .0, c .before .before .before .before .before .before .before .before .before .pre .1 .1 .0))
 
 enum-known-e-2 : tie.Need-enum-known-e-2
 enum-known-e-2 c = search needs
 
-cast-at-u32 : tie.Need-cast-at-u32
-cast-at-u32 c = search needs
+put-i32-requires : tie.Need-put-i32-requires
+put-i32-requires c κs = search needs
 
-at-u32-requires : tie.Need-at-u32-requires
-at-u32-requires c κs = search needs
+put-i32-requires-2 : tie.Need-put-i32-requires-2
+put-i32-requires-2 c κs = search needs
 
-settle-requires : tie.Need-settle-requires
-settle-requires c κs = (c .before .before .before .before .before .before .before .before .before .before .before .before .pre .0, (c .before .before .before .before .before .before .before .before .before .before .before .before .pre .1 .0, c .before .before .before .before .before .before .before .before .before .before .before .before .pre .1 .1 .0))
-
-add-t39 : tie.Need-add-t39
-add-t39 c =
-    let m = c .before .before .before .before .before .before .before .before .before .before .before .before .before .pre .0 .numbers .rules .most in
-    let l : c .before .before .before .before .before .at-u32 .result ≤ 4000000 = rw (c .before .before .before .before .before .at-u32 .ensures) (c .before .before .before .before .before .before .before .before .before .before .before .before .before .pre .1 .1 .1 .0 _) in
-    record { fits = omega arith }
-
-put-entry-requires-2 : tie.Need-put-entry-requires-2
-put-entry-requires-2 c κs = search needs
+put-u32-requires : tie.Need-put-u32-requires
+put-u32-requires c κs = search needs
 
 returns : tie.Need-returns
 returns c =
     let a = c .before .before .before .before .before .args in
-    (write-blank (a .z) (a .srule .now) (a .a) (a .c) (a .base .now) (a .check .now) (a .marks .now) (a .place .now) (actOf (a .e)) (a .base .now) (a .check .now) (a .marks .now) (a .place .now) (ap actOf (c .enum-told .given .1)), c .before .before .before .before .before .pre .1 .1 .1 .0)
+    (store-nothing (a .z) (a .srule .now) (a .a) (a .c) (a .base .now) (a .check .now) (a .marks .now) (a .place .now) (a .e) (c .enum-told .given .1), c .before .before .before .before .before .pre .1 .1 .1 .0)
 
 same-length : tie.Need-same-length
-same-length c = search needs
+same-length c = c .before .before .before .before .before .settle .kept .1 .1 .0
 
 same-length-2 : tie.Need-same-length-2
-same-length-2 c = search needs
+same-length-2 c = c .before .before .before .before .before .settle .kept .1 .1 .1 .0
 
 same-length-3 : tie.Need-same-length-3
-same-length-3 c = search needs
+same-length-3 c = c .before .before .before .before .before .settle .kept .1 .1 .1 .1 .0
 
 returns-2 : tie.Need-returns-2
 returns-2 c =
-    let a = c .before .before .before .before .before .before .before .before .before .before .before .before .before .before .args in
-    let q = ap actOf (c .before .before .before .before .before .before .before .before .before .e .given .1) in
-    (write-rule (a .z) (a .srule .now) (a .a) (a .c) (a .base .now) (a .check .now) (a .marks .now) (a .place .now) (actOf (a .e)) _ _ _ (a .place .now) _ q (c .before .before .before .before .before .before .before .before .before .before .before .before .before .before .pre .1 .1 .1 .1 _ q) (c .before .before .before .before .before .before .before .before .before .before .before .before .before .before .pre .1 .1 .0) (c .before .before .before .before .put-entry .ensures .0) (c .before .before .before .before .put-entry .ensures .1 .0) (c .before .before .before .before .put-entry .ensures .1 .1), c .before .before .before .before .before .before .before .before .before .before .before .before .before .before .pre .1 .1 .1 .0)
+    let a = c .before .before .before .before .before .before .before .before .before .before .before .before .before .before .before .args in
+    let p = c .before .before .before .before .before .before .before .before .before .before .before .before .before .before .before .pre in (
+      store-state (a .z) (a .srule .now) (a .a) (a .c) (a .base .now) (a .check .now) (a .marks .now) (a .place .now) (a .e) _ (c .before .before .before .before .before .before .before .before .before .before .e .given .1) _ _ _ (c .before .before .before .before .before .settle .ensures),
+      settled-low (a .z) (a .srule .now) _ (a .c) (a .a) (a .check .now) (a .marks .now) (a .place .now) 0 _ _ _ (p .1 .0) (p .1 .1 .1 .0) (c .before .before .before .before .before .settle .ensures),
+    )
 
 same-length-4 : tie.Need-same-length-4
-same-length-4 c = search needs
+same-length-4 c = c .before .before .before .before .before .before .before .before .put-i32 .kept .0
 
 same-length-5 : tie.Need-same-length-5
-same-length-5 c = search needs
+same-length-5 c = c .before .before .before .before .before .put-i322 .kept .0
 
 same-length-6 : tie.Need-same-length-6
-same-length-6 c = search needs
+same-length-6 c = c .before .before .put-u32 .kept .0
 
 returns-3 : tie.Need-returns-3
 returns-3 c =
-    let a = c .before .before .before .before .before .before .before .before .before .before .before .before .before .before .before .before .before .before .args in (
-      write-home (a .z) (a .srule .now) (a .a) (a .c) (a .base .now) (a .check .now) (a .marks .now) (a .place .now) (actOf (a .e)) (a .base .now) _ _ _ _ (ap actOf (c .before .before .before .before .before .before .before .before .before .before .before .before .before .e2 .given .1)) (sym (c .before .before .before .before .before .before .before .before .before .before .at-u32 .ensures) ∙ c .before .before .before .before .before .before .before .before .before .if1 .taken) (c .before .before .before .before .before .settle .ensures),
-      settled-low (a .z) (a .srule .now) _ (a .c) (a .a) (a .check .now) (a .marks .now) (a .place .now) 0 _ _ _ (c .before .before .before .before .before .before .before .before .before .before .before .before .before .before .before .before .before .before .pre .1 .0) (c .before .before .before .before .before .before .before .before .before .before .before .before .before .before .before .before .before .before .pre .1 .1 .1 .0) (c .before .before .before .before .before .settle .ensures),
-    )
-
-same-length-7 : tie.Need-same-length-7
-same-length-7 c = search needs
-
-same-length-8 : tie.Need-same-length-8
-same-length-8 c = search needs
-
-same-length-9 : tie.Need-same-length-9
-same-length-9 c = search needs
-
-same-length-10 : tie.Need-same-length-10
-same-length-10 c = search needs
-
-returns-4 : tie.Need-returns-4
-returns-4 c =
-    let a = c .before .before .before .before .before .before .before .before .before .before .before .before .before .before .before .before .before .before .args in (
-      write-pointer (a .z) (a .srule .now) (a .a) (a .c) (a .base .now) (a .check .now) (a .marks .now) (a .place .now) (actOf (a .e)) _ _ _ (a .place .now) _ (ap actOf (c .before .before .before .before .before .before .before .before .before .before .before .before .before .e2 .given .1)) (λ x. c .before .before .before .before .before .before .before .before .before .if1 .left (c .before .before .before .before .before .before .before .before .before .before .at-u32 .ensures ∙ x)) (c .before .before .before .before .before .before .before .before .before .before .before .before .before .before .before .before .before .before .pre .0 .numbers .rules .most) (c .before .before .before .before .before .before .before .before .before .before .before .before .before .before .before .before .before .before .pre .1 .1 .1 .0 _) (c .before .before .before .before .before .before .before .before .before .before .before .before .before .before .before .before .before .before .pre .1 .1 .0)
-          (rw (c .before .before .before .before .before .before .before .before .before .before .at-u32 .ensures) at (c .before .before .before .before .put-entry2 .ensures .0)) (c .before .before .before .before .put-entry2 .ensures .1 .0) (c .before .before .before .before .put-entry2 .ensures .1 .1),
-      c .before .before .before .before .before .before .before .before .before .before .before .before .before .before .before .before .before .before .pre .1 .1 .1 .0,
-    )
+    let a = c .before .before .before .before .before .before .before .before .before .before .before .before .before .before .before .before .args in
+    let p = c .before .before .before .before .before .before .before .before .before .before .before .before .before .before .before .before .pre in
+    (store-minus (a .z) (a .srule .now) (a .a) (a .c) (a .base .now) (a .check .now) (a .marks .now) (a .place .now) (a .e) _ (c .before .before .before .before .before .before .before .before .before .before .before .e2 .given .1) (p .1 .1 .1 .1) (p .1 .1 .0) _ _ _ (c .before .before .before .before .before .before .before .before .put-i32 .ensures) (c .before .before .before .before .before .put-i322 .ensures) (c .before .before .put-u32 .ensures), p .1 .1 .1 .0)
 
 pub write-entry-spec : {M : Type 1} → statement M
 write-entry-spec =
@@ -99,13 +67,11 @@ write-entry-spec =
     (tie.spec
     enum-told
     enum-known-e
-    put-entry-requires
-    enum-known-e-2
-    cast-at-u32
-    at-u32-requires
     settle-requires
-    add-t39
-    put-entry-requires-2
+    enum-known-e-2
+    put-i32-requires
+    put-i32-requires-2
+    put-u32-requires
     returns
     same-length
     same-length-2
@@ -114,9 +80,4 @@ write-entry-spec =
     same-length-4
     same-length-5
     same-length-6
-    returns-3
-    same-length-7
-    same-length-8
-    same-length-9
-    same-length-10
-    returns-4)
+    returns-3)
