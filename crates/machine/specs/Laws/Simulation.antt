@@ -10,11 +10,9 @@ use borrow.Author.Tests.{ltb-true}
 use Rattle.tables.specs.Grammar.{Grammar}
 use Rattle.machine.specs.declared.Current.{Current}
 use Rattle.machine.specs.declared.Current.the-variants.{Is, Wrong}
-use Rattle.machine.specs.declared.Answer.{Answer}
-use Rattle.machine.specs.declared.Answer.the-variants.{Accepted, Token, Syntax, Underflow, NoGoto, Stack, Output, Moves, BadCell}
 use Rattle.machine.specs.Reads.{Act, shift, reduce, accept, blank, malformed, Go, goes, nowhere, broken, Reads}
 use Rattle.machine.specs.Machine.{Job, Config, Result, Step, on, halt, refused, current, terminal, pushed, written}
-use Rattle.machine.specs.Carry.{carryAct, carryGo, carryAnswer, carryConfig, carryResult, carryStep}
+use Rattle.machine.specs.Carry.{carryAct, carryGo, carryConfig, carryResult, carryStep}
 use Rattle.machine.specs.Machine.{afterShift, afterReduce, afterAccept, gone, popped, acted, looked, move, then, run, start, begun, parse}
 
 -- rules that a reduction may name

@@ -11,8 +11,6 @@ use borrow.Author.Tests.{lt-ltb}
 use Rattle.tables.specs.Grammar.{Grammar}
 use Rattle.machine.specs.declared.Current.{Current}
 use Rattle.machine.specs.declared.Current.the-variants.{Is, Wrong}
-use Rattle.machine.specs.declared.Answer.{Answer}
-use Rattle.machine.specs.declared.Answer.the-variants.{Accepted, Token, Syntax, Underflow, NoGoto, Stack, Output, Moves, BadCell}
 use Rattle.machine.specs.Reads.{Act, shift, reduce, accept, blank, malformed, Go, goes, nowhere, broken, Reads}
 use Rattle.machine.specs.Machine.{Job, Config, Result, Step, on, halt, refused, current, pushed, written}
 use Rattle.machine.specs.Machine.{afterShift, afterReduce, afterAccept, gone, popped, acted, looked, move, then, run, start, begun, parse}

@@ -21,8 +21,8 @@ use Rattle.packing.specs.declared.RowBase.the-variants.{Empty, Shared, O
 use Rattle.packing.specs.Rows.{row, rep, Plan, search, plan, emptyUpto}
 use Rattle.packing.specs.Bench.{Bench, freeB, free2B, inside, needsUpto, baseB, natOf, fillB, firstB, tryB, placeB, rowByB, rowB, homeB, stateB}
 use Rattle.packing.specs.Job.{jobOf}
-use Rattle.packing.specs.Written.{bench, kept, asKind, cellOf, rowOf, homelessIn, everyUpto, Gathered, testB, FirstSame, bareJob, Housed, Filled}
-use Rattle.packing.specs.Turns.{Based, rowAt, ownOf, sharedOf, ownPlan, OwnBased, RowBased, RowTurn, HomeTurn, StateTurn}
+use Rattle.packing.specs.Written.{bench, asKind, cellOf, rowOf, homelessIn, everyUpto, Gathered, testB, FirstSame, bareJob, Housed, Filled}
+use Rattle.packing.specs.Turns.{Based, rowAt, ownPlan, OwnBased, RowBased, RowTurn, HomeTurn, StateTurn}
 use Rattle.packing.specs.Laws.Written.{row-is}
 use Rattle.packing.specs.Laws.Gather.{empty-is}
 use Rattle.packing.specs.Laws.Search.{used-same}

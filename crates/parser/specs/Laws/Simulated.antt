@@ -1,5 +1,5 @@
 -- Cells that were packed read as the filled table, each state carried to its cell: so a parse with them is the plain machine's. Assumes nothing.
-use mathlib.Core.Path.{_≡_, refl, sym, ap, _∙_}
+use mathlib.Core.Path.{_≡_, sym, ap, _∙_}
 use mathlib.Core.Bool.{true}
 use mathlib.Core.Option.{some}
 use mathlib.Core.List.{List, []}
@@ -17,11 +17,8 @@ use Rattle.tables.specs.Grammar.{grammar}
 use Rattle.tables.specs.Judgement.{judgement}
 use Rattle.tables.specs.Filled.{filledActionAt, filledGotoAt}
 use Rattle.tables.specs.Laws.Judgement.{ok-means}
-use Rattle.cells.specs.declared.Way.{Way}
-use Rattle.cells.specs.declared.Way.the-variants.{Direct, Pointer}
 use Rattle.cells.specs.declared.Read.{Read}
 use Rattle.cells.specs.Read.{twice}
-use Rattle.cells.specs.Parts.{wayCell}
 use Rattle.cells.specs.Size.{cellsFit}
 use Rattle.cells.specs.Laws.Size.{fit-cells}
 use Rattle.packing.specs.Job.{jobOf}

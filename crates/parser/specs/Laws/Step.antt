@@ -19,8 +19,7 @@ use Rattle.machine.specs.declared.State.{State}
 use Rattle.machine.specs.declared.Moved.{Moved}
 use Rattle.machine.specs.declared.Moved.the-variants.{On, Halt}
 use Rattle.machine.specs.Outcome.{job}
-use Rattle.machine.specs.Machine.{Job}
-use Rattle.machine.specs.Arrays.{rulesOf, Ready, After, after, moveAt, Done, outOf, refusedBy, begin, parseAt, runAt}
+use Rattle.machine.specs.Arrays.{rulesOf, Ready, After, after, moveAt, Done, outOf, refusedBy, begin, parseAt}
 use Rattle.machine.specs.Laws.Turns.{Turning, turn-begin, parse-turns, turn-on, turn-counts, turn-halt, turn-end}
 use Rattle.parser.specs.declared.Stepped.the-variants.{Made}
 use Rattle.parser.specs.Reads.{cellReads}

@@ -20,7 +20,7 @@ use Rattle.tables.specs.Signing.{signing, goodSignature, goodTarget, low
 use Rattle.tables.specs.Verdict.{Verdict, sizes, rule, entry, state, target, good}
 use Rattle.tables.specs.Judgement.{saidOf, named, signJudgement, judgement}
 use Rattle.tables.specs.Lists.{lowest}
-use Rattle.tables.specs.Verdict.{Passed, Least}
+use Rattle.tables.specs.Verdict.{Passed}
 use Rattle.tables.specs.Laws.Lowest.{lowest-at, lowest-nowhere, at-least, nowhere-passed}
 use Rattle.tables.specs.Laws.Size.{AllFit, all-fit, fit-all, GrammarFits, grammar-fits, SigningFits, signing-fits, table-fits}
 use Rattle.tables.specs.Laws.Grammar.{GrammarOk, grammar-ok, ok-grammar}

@@ -1,4 +1,3 @@
-use mathlib.Core.Path.{_≡_, refl, ap, sym, _∙_}
 use borrow.Author.Needs.{needs}
 use Rattle.answers.proofs.parsed.ended.Statement.{statement}
 use Rattle.answers.proofs.parsed.ended.Tie as tie

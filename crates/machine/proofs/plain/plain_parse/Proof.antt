@@ -1,13 +1,12 @@
-use mathlib.Core.Path.{_≡_, refl, sym, ap, _∙_}
-use mathlib.Core.List.{List, [], _∷_}
-use Prim.Native.Nat.{ℕ}
+use mathlib.Core.Path.{_≡_, sym, ap, _∙_}
+use mathlib.Core.List.{[]}
 use Rattle.tables.specs.Said.{OK}
 use Rattle.tables.specs.Grammar.{grammar}
 use Rattle.tables.specs.Judgement.{saidOf, judgement}
 use Rattle.tables.specs.Laws.Size.{GrammarFits, grammar-fits}
 use Rattle.tables.specs.Laws.Judgement.{WellFormed, ok-means}
 use Rattle.machine.specs.Reads.{plainReads}
-use Rattle.machine.specs.Outcome.{Outcome, outcome, unchanged, judgedThen, plainParse}
+use Rattle.machine.specs.Outcome.{unchanged, judgedThen, plainParse}
 use Rattle.machine.specs.Laws.Outcome.{job-limit, told, parse-left}
 use Rattle.machine.specs.Laws.Refused.{refused-said}
 use borrow.Author.Needs.{needs}

@@ -1,11 +1,10 @@
-use mathlib.Core.Path.{_≡_, refl, sym, ap, _∙_}
-use mathlib.Core.List.{List, [], _∷_}
-use Prim.Native.Nat.{ℕ}
+use mathlib.Core.Path.{_≡_, sym, ap, _∙_}
+use mathlib.Core.List.{[]}
 use native.Mathlib.Omega.{arith}
 use Rattle.tables.specs.Said.{OK}
 use Rattle.tables.specs.Grammar.{grammar}
 use Rattle.tables.specs.Judgement.{saidOf, grammarJudgement}
-use Rattle.machine.specs.Outcome.{Outcome, outcome, unchanged, judgedThen}
+use Rattle.machine.specs.Outcome.{unchanged, judgedThen}
 use Rattle.machine.specs.Laws.Outcome.{parse-left}
 use Rattle.parser.specs.Reads.{cellReads}
 use Rattle.parser.specs.Outcome.{packedParse}

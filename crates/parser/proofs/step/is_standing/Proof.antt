@@ -1,6 +1,5 @@
 use Rattle.parser.specs.Step.{stands}
-use mathlib.Core.Path.{_≡_, refl, ap, sym, _∙_}
-use borrow.Author.Tests.{lt-ltb, le-ltb, le-leb, lt-leb, eq-eqb, ne-eqb, not-true, not-false}
+use borrow.Author.Tests.{le-leb, lt-leb}
 use borrow.Author.Needs.{needs}
 use Rattle.parser.proofs.step.is_standing.Statement.{statement}
 use Rattle.parser.proofs.step.is_standing.Tie as tie
