@@ -1,4 +1,6 @@
 // Answers as Rust gets them: a number and its values.
+#![tactic(auto)]
+
 pub mod asked;
 pub mod checked;
 pub mod judged;
@@ -9,7 +11,7 @@ mod words;
 
 // The number of an answer, how many values come with it, and the values; 0 where there is none.
 #[repr(C)]
-#[derive(Drop)]
+#[derive(Clone, Copy)]
 pub struct Answer {
     pub number: u32,
     pub count: u32,
@@ -19,7 +21,7 @@ pub struct Answer {
 
 // The same, with the count of moves.
 #[repr(C)]
-#[derive(Drop)]
+#[derive(Clone, Copy)]
 pub struct ParseAnswer {
     pub number: u32,
     pub count: u32,

@@ -1,4 +1,6 @@
 // The small board of document 01, as code.
+#![tactic(auto)]
+
 ghost use Rattle.std.specs.Prelude.{◌≡◌};
 ghost use Rattle.board.specs.Board.{small as Board·small};
 
@@ -8,7 +10,7 @@ use crate::table::TABLE;
 use tables::Sizes;
 
 // A grammar of five rules over six symbols, a table of seven states for it, and a signing.
-#[derive(Drop)]
+#[derive(Clone, Copy)]
 pub struct Board {
     pub sizes: Sizes,
     pub states: u32,

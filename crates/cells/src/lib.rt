@@ -1,17 +1,19 @@
 // The cells, and how they are read.
+#![tactic(auto)]
+
 pub mod ask;
 pub mod reading;
 pub mod size;
 
 // Where the cell of a shift's state was found: at the symbol's own cell, or through a pointer there.
-#[derive(Drop)]
+#[derive(Clone, Copy)]
 pub enum Way {
     Direct(usize),
     Pointer(usize),
 }
 
 // What a read answers.
-#[derive(Drop)]
+#[derive(Clone, Copy)]
 pub enum Read {
     Shift(Way),
     Reduce(u32),
@@ -21,7 +23,7 @@ pub enum Read {
 }
 
 // What a read that is asked for by itself says.
-#[derive(Drop)]
+#[derive(Clone, Copy)]
 pub enum Asked {
     Size,
     BadCell(usize),

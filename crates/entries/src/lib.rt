@@ -1,4 +1,6 @@
 // How an entry of the table is read, unsigned and filled.
+#![tactic(auto)]
+
 ghost use Rattle.std.specs.Prelude.{◌≡◌};
 ghost use Rattle.tables.specs.Entry.{action_at, goto_at};
 ghost use Rattle.tables.specs.Filled.{signed_action, signed_goto, filled_action_at, filled_goto_at};

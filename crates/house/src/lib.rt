@@ -1,4 +1,6 @@
 // The house variant notation: its grammar and its table, handed out as the lists that are proved sound.
+#![tactic(auto)]
+
 ghost use Rattle.std.specs.Prelude.{◌≡◌};
 ghost use Rattle.tables.specs.Judgement.{said_of};
 ghost use Rattle.house.specs.House.{house_left, house_lens, house_rights, house_table};

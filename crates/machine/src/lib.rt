@@ -1,18 +1,20 @@
 // The machine of 'One move': what a parse says and leaves, and the plain machine over the filled table.
+#![tactic(auto)]
+
 pub mod job;
 pub mod plain;
 
 use tables::Judged;
 
 // The current token: a terminal (0 at the end), or one that is not 1..T-1.
-#[derive(Drop)]
+#[derive(Clone, Copy)]
 pub enum Current {
     Is(u32),
     Wrong,
 }
 
 // How a parse ends, past the numbers 1 to 4, and with what. The count of moves comes with each.
-#[derive(Drop)]
+#[derive(Clone, Copy)]
 pub enum Answer {
     Accepted(usize),
     Token(usize),
@@ -26,7 +28,7 @@ pub enum Answer {
 }
 
 // Where a parse stands: the state on top of the stack, how many states are on it, the place in the tokens, the reductions in the list, the moves made.
-#[derive(Drop)]
+#[derive(Clone, Copy)]
 pub struct State {
     pub top: u32,
     pub depth: usize,
@@ -36,7 +38,7 @@ pub struct State {
 }
 
 // How a run ended: its answer, the reductions in the list, the moves made.
-#[derive(Drop)]
+#[derive(Clone, Copy)]
 pub struct Ran {
     pub answer: Answer,
     pub count: usize,
@@ -44,14 +46,14 @@ pub struct Ran {
 }
 
 // What a move makes: where the parse stands after it, or its end.
-#[derive(Drop)]
+#[derive(Clone, Copy)]
 pub enum Moved {
     On(State),
     Halt(Ran),
 }
 
 // What a parse says: refused under the numbers 1 to 4, or ended with a count of moves.
-#[derive(Drop)]
+#[derive(Clone, Copy)]
 pub enum Parsed {
     Refused(Judged),
     Ended(Answer, u32),

@@ -1,4 +1,6 @@
 // The only crate that sees a signed machine number: taken apart, made again, read and stored; and the same for unsigned ones.
+#![tactic(auto)]
+
 mod words;
 
 ghost use Rattle.std.specs.Prelude.{◌≡◌, pos, ◌<◌, set, get_or, length, replicate};
@@ -7,7 +9,7 @@ ghost use Rattle.number.specs.Number.{sign_of, number_of, is_plus, plus_of};
 pub use words::{at_u32, clear_u32, put_u32};
 
 // A number taken apart: what it is, or what it is the negative of.
-#[derive(Drop)]
+#[derive(Clone, Copy)]
 pub enum Signed {
     Plus(u32),
     Minus(u32),

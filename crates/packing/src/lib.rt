@@ -1,4 +1,6 @@
 // Packing: every state and every written row gets its place in the cells, in document 01's order.
+#![tactic(auto)]
+
 mod gather;
 pub mod pack;
 mod place;
@@ -10,7 +12,7 @@ mod turn;
 use tables::Judged;
 
 // A written entry; a blank one stands where the row has none.
-#[derive(Drop)]
+#[derive(Clone, Copy)]
 pub enum Written {
     Blank,
     Shift(u32),
@@ -18,7 +20,7 @@ pub enum Written {
 }
 
 // What is stored for a written entry: nothing, a state with its two cells, or the negative of a number in Base.
-#[derive(Drop)]
+#[derive(Clone, Copy)]
 pub enum Stored {
     Nothing,
     State(u32),
@@ -26,7 +28,7 @@ pub enum Stored {
 }
 
 // The base of a row: none where it needs none, that of a state with the same row, one of its own, or none for want of room.
-#[derive(Drop)]
+#[derive(Clone, Copy)]
 pub enum RowBase {
     Empty,
     Shared(u32),
@@ -35,7 +37,7 @@ pub enum RowBase {
 }
 
 // What packing says: the count of cells, what the judgement refuses, or that there is no room.
-#[derive(Drop)]
+#[derive(Clone, Copy)]
 pub enum Packing {
     Packed(usize),
     Refused(Judged),

@@ -1,4 +1,6 @@
 // packsheet: reads a signing sheet of the small board on standard input, packs the board into 64 cells with it, and prints them; or prints a refusal.
+#![tactic(auto)]
+
 use libc::{STDIN_FILENO, STDOUT_FILENO};
 use printed::print_sheet;
 

@@ -1,4 +1,6 @@
 // The parser over packed cells: the machine of 'One move', whose reads are reads of cells.
+#![tactic(auto)]
+
 mod moves;
 pub mod parse;
 pub mod step;
@@ -6,7 +8,7 @@ pub mod step;
 use machine::Moved;
 
 // What one move on a state gives: SIZE, or what the move made.
-#[derive(Drop)]
+#[derive(Clone, Copy)]
 pub enum Stepped {
     Size,
     Made(Moved),

@@ -1,4 +1,6 @@
 // What packsheet prints for a sheet: the small board packed with its signing, or a refusal.
+#![tactic(auto)]
+
 ghost use Rattle.std.specs.Prelude.{◌≡◌};
 ghost use Rattle.sheets.specs.Emit.{Emitted};
 ghost use Rattle.packing.specs.Written.{bench};

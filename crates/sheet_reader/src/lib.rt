@@ -1,2 +1,4 @@
 // The reader of the signing sheet.
+#![tactic(auto)]
+
 pub mod read;

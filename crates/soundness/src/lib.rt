@@ -1,4 +1,6 @@
 // The table check: whether every path of the unsigned table keeps what its filled rows reduce by.
+#![tactic(auto)]
+
 mod back;
 mod flags;
 mod row;
@@ -9,7 +11,7 @@ mod ways;
 use tables::Judged;
 
 // What the check says: the judgement, which is OK where every path keeps the conditions too, or the least state and then rule that fails on some path.
-#[derive(Drop)]
+#[derive(Clone, Copy)]
 pub enum Checked {
     Judgement(Judged),
     Unsound(u32, u32),

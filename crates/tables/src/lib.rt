@@ -1,8 +1,10 @@
 // Grammar, table and signing: what is refused under the numbers 1 to 4, SIZE tested, and how an entry is read.
+#![tactic(auto)]
+
 pub mod size;
 
 // The numbers of a grammar: T, M and G.
-#[derive(Drop)]
+#[derive(Clone, Copy)]
 pub struct Sizes {
     pub terminals: u32,
     pub symbols: u32,
@@ -10,7 +12,7 @@ pub struct Sizes {
 }
 
 // What a judgement says.
-#[derive(Drop)]
+#[derive(Clone, Copy)]
 pub enum Judged {
     Good,
     Size,
@@ -21,14 +23,14 @@ pub enum Judged {
 }
 
 // The lowest place that is bad, if there is one.
-#[derive(Drop)]
+#[derive(Clone, Copy)]
 pub enum Lowest {
     At(usize),
     Nowhere,
 }
 
 // An entry of a terminal column.
-#[derive(Drop)]
+#[derive(Clone, Copy)]
 pub enum Action {
     Blank,
     Shift(u32),
@@ -37,7 +39,7 @@ pub enum Action {
 }
 
 // An entry of a nonterminal column.
-#[derive(Drop)]
+#[derive(Clone, Copy)]
 pub enum Goto {
     Blank,
     To(u32),

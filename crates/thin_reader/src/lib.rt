@@ -1,2 +1,4 @@
 // A sheet reader that holds the lent text and its place in it.
+#![tactic(auto)]
+
 pub mod reader;

@@ -11,7 +11,7 @@ use machine::plain::plain_parse;
 use parser::parse::parse;
 
 // What a parse reads: the packed cells, or the filled table.
-#[derive(Drop)]
+#[derive(Clone, Copy)]
 enum Over {
     Cells,
     Table,

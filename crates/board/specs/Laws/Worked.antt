@@ -1,6 +1,6 @@
 -- The table of worked cases, computed. Assumes nothing.
 use Rattle.std.specs.Prelude.{◌≡◌, refl}
-use mathlib.Core.List.{List, ◌∷◌, map, Memᴰ}
+use mathlib.Core.List.{List, [], ◌∷◌, map, Memᴰ}
 use Rattle.tables.specs.Lists.{all, sum, among, or_at, lowest}
 use Rattle.tables.specs.Size.{numbers_fit, states_fit, rights_fit, grammar_fits, table_fits, signing_fits, all_fit}
 use Rattle.tables.specs.Grammar.{right_at, grammar, inner, on_right, good_sides, good_rule, lowest_rule}
@@ -46,6 +46,7 @@ computed = refl
 
 -- where two lists of answers are the same, so are the two answers of each case
 same_at : {A B : Type 0} (f g : A → B) {x : A} (l : List A) → map f l ≡ map g l → Memᴰ x l → f x ≡ g x
+same_at f g [] e m = elim m [ ]
 same_at f g (y ∷ l) e (Memᴰ.head h) = cc
 same_at f g (y ∷ l) e (Memᴰ.tail m) = same_at f g l (cc) m
 

@@ -29,6 +29,8 @@ use Rattle.soundness.specs.Laws.Unsigned.{unsigned_reads_lem}
 
 module _ (g : Grammar) (tokens made : List ℕ) (moves : ℕ) where
   right-said : (a : Answer) → Right g tokens a made → ((answer_of a moves).number ≢ 9) × ((answer_of a moves).number ≢ 10)
+  right-said (Underflow _ _) k = elim k [ ]
+  right-said (NoGoto _ _) k = elim k [ ]
   right-said (Accepted n) k = (λ e. omega arith, λ e. omega arith)
   right-said (Token i) k = (λ e. omega arith, λ e. omega arith)
   right-said (Syntax i) k = (λ e. omega arith, λ e. omega arith)

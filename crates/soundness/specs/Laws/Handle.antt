@@ -9,7 +9,7 @@ use Rattle.std.proofs.lemmas.List.{length-reverse}
 use borrow.Author.Tests.{eqb-true, eqb-false}
 use Rattle.tables.specs.Grammar.{Grammar}
 use Rattle.tables.specs.Laws.Tests.{clash}
-use Rattle.machine.specs.Reads.{Act, reduce, accept, Go, goes, nowhere, broken, Reads}
+use Rattle.machine.specs.Reads.{Act, shift, reduce, accept, blank, malformed, Go, goes, nowhere, broken, Reads}
 use Rattle.soundness.specs.Verdict.{Reduces, by-rule, by-accept, Handle}
 use Rattle.soundness.specs.Check.{is_there, may_precede, rule_of, rules_at}
 use Rattle.soundness.specs.Laws.Tail.{Tail}
@@ -73,6 +73,9 @@ module _ (g : Grammar) (u : Reads) (r p : ℕ) where
 -- ---- the rules of a row
 
 rule-in : {v : Reads} {s a r : ℕ} (x : Act) → v.act s a ≡ x → Memᴰ r (rule_of x) → (g : Grammar) → a < g.T → Reduces g v s r
+rule-in (shift _) e m g h = elim m [ ]
+rule-in blank e m g h = elim m [ ]
+rule-in malformed e m g h = elim m [ ]
 rule-in {v} {s} {a} (reduce q) e m g h = rw (mathlib.Core.List.Memᴰ.eq_of_singleton m) (by-rule a h e)
 rule-in {v} {s} {a} accept e m g h = rw (mathlib.Core.List.Memᴰ.eq_of_singleton m) (by-accept a h e)
 

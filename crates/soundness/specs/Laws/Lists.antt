@@ -41,6 +41,7 @@ module _ {A : Type 0} where
   -- and whatever is in the list and passes is one of those
   pub those-in : (test : A → Bool) (xs : List A) (y : A) → Memᴰ y xs → test y ≡ true → Memᴰ y (those test xs)
   unfolding those kept
+  those-in test [] y m h = elim m [ ]
   those-in test (x ∷ xs) y (Memᴰ.head e) h =
       let q : test x ≡ true = ap test (sym e) ∙ h in
       rw q (Memᴰ.head e)
@@ -58,6 +59,7 @@ module _ {A : Type 0} where
   -- where one does not pass, those are fewer
   pub those-fewer : (test : A → Bool) (xs : List A) (y : A) → Memᴰ y xs → test y ≡ false → length (those test xs) < length xs
   unfolding those kept
+  those-fewer test [] y m h = elim m [ ]
   those-fewer test (x ∷ xs) y (Memᴰ.head e) h =
       let q : test x ≡ false = ap test (sym e) ∙ h in
       rw q (omega (arith, those-most test xs))

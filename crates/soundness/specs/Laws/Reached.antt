@@ -11,7 +11,7 @@ use Rattle.tables.specs.Lists.{among}
 use Rattle.tables.specs.Grammar.{Grammar}
 use Rattle.tables.specs.Laws.Tests.{and-true}
 use Rattle.tables.specs.Laws.Members.{among-from, among_in}
-use Rattle.machine.specs.Reads.{Act, shift, Go, goes, Reads}
+use Rattle.machine.specs.Reads.{Act, shift, reduce, accept, blank, malformed, Go, goes, nowhere, broken, Reads}
 use Rattle.soundness.specs.Path.{Edge, by-shift, by-goto, here, along, Reach}
 use Rattle.soundness.specs.Lists.{those, collect}
 use Rattle.soundness.specs.Check.{Arc, arc, shifts_to, goes_to, leads_to, arcs_from, arcs, grown, grow, reached}
@@ -21,9 +21,15 @@ use Rattle.soundness.specs.Laws.Column.{closed_all}
 -- ---- the arcs
 
 shifts-from : {t : ℕ} (a : Act) → Memᴰ t (shifts_to a) → a ≡ shift t
+shifts-from (reduce _) m = elim m [ ]
+shifts-from accept m = elim m [ ]
+shifts-from blank m = elim m [ ]
+shifts-from malformed m = elim m [ ]
 shifts-from (shift s) m = ap shift (sym (mathlib.Core.List.Memᴰ.eq_of_singleton m))
 
 goes-from : {t : ℕ} (x : Go) → Memᴰ t (goes_to x) → x ≡ goes t
+goes-from nowhere m = elim m [ ]
+goes-from broken m = elim m [ ]
 goes-from (goes s) m = ap goes (sym (mathlib.Core.List.Memᴰ.eq_of_singleton m))
 
 module _ (g : Grammar) (u : Reads) where

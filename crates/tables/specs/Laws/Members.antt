@@ -24,6 +24,7 @@ or_right false h = h
 -- a member is found
 pub among_in : (x : ℕ) (l : List ℕ) → Memᴰ x l → among x l ≡ true
 unfolding among
+among_in x [] m = elim m [ ]
 among_in x (y ∷ l) (Memᴰ.head e) = rw (eq-eqb x y e)
 among_in x (y ∷ l) (Memᴰ.tail m) = or_right (eqb x y) (among_in x l m)
 
@@ -31,6 +32,7 @@ module _ (test : ℕ → Bool) where
   -- where all pass, each member does
   pub all_of : (l : List ℕ) → all test l ≡ true → (x : ℕ) → Memᴰ x l → test x ≡ true
   unfolding all
+  all_of [] e x m = elim m [ ]
   all_of (y ∷ l) e x (Memᴰ.head q) = ap test q ∙ (and-true (test y) e).0
   all_of (y ∷ l) e x (Memᴰ.tail m) = all_of l (and-true (test y) e).1 x m
 
