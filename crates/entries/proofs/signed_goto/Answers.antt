@@ -1,0 +1,15 @@
+use Rattle.tables.specs.Filled.{signed_goto}
+use borrow.Author.Tests.{eq-eqb, ne_eqb}
+use Rattle.entries.proofs.signed_goto.Goals as goal
+
+pub returns-then-t-eq0 : goal.returns-then-t-eq0
+unfolding signed_goto
+returns-then-t-eq0 c =
+    rw
+    (eq-eqb _ _ c.if-t-eq0.true)
+
+pub returns-else-t-eq0 : goal.returns-else-t-eq0
+unfolding signed_goto
+returns-else-t-eq0 c =
+    rw
+    (ne_eqb _ _ c.if-t-eq0.false)
