@@ -1,8 +1,7 @@
 use mathlib.Core.Path.{◌≡◌, refl, sym, ◌∙◌}
-use mathlib.Core.Logic.{⊎_elim}
 use mathlib.Core.Bool.{Bool, true, false, ◌||◌, or-true, or-false}
 use mathlib.Core.List.{List}
-use Prim.Native.Nat.{ℕ, zero, suc, ◌+◌, ◌-◌, ◌≤◌, ◌<◌}
+use Prim.Native.Nat.{ℕ, zero, suc, ◌+◌, ◌≤◌, ◌<◌}
 use native.Mathlib.Numerals.{add-one}
 use native.Mathlib.Omega.{arith}
 use lib.Dec.{eqb}
@@ -13,15 +12,10 @@ use Rattle.tables.specs.declared.Lowest.TheVariants.{At, Nowhere}
 use Rattle.tables.specs.Lists.{among}
 use Rattle.tables.specs.Signing.{good_target, lowest_target}
 use Rattle.tables.specs.Laws.Lists.{among_none, among-more}
-use Rattle.tables.specs.Laws.Lowest.{Walk, walk-begin, walk-on, walk-bad, walk_end}
-use Rattle.judgement.proofs.signing.lowest_target.Statement.{statement}
-use Rattle.judgement.proofs.signing.lowest_target.Tie as tie
-
--- the nonterminals before i are good, and `seen` marks the states that they sign
-record Passing (states : ℕ) (sgoto : List ℕ) (seen : List Bool) (i : ℕ) : Type 0 where
-  pub walk : Walk (good_target states sgoto) (length sgoto) i
-  pub size : length seen ≡ 1024
-  pub marks : (t : ℕ) → 0 < t → get_or seen t false ≡ among t (take i sgoto)
+use Rattle.tables.specs.Laws.Lowest.{walk-begin, walk-on, walk-bad, walk_end}
+use Rattle.judgement.proofs.signing.lowest_target.Invariants.{Passing}
+use Rattle.judgement.proofs.signing.lowest_target.Goals as goal
+use Rattle.judgement.proofs.signing.lowest_target.Goals.{then-t-ne0+else-i-eq0+else-states-t+else-seen-t, else-t-ne0}
 
 unmarked : (n t : ℕ) → get_or (replicate n false) t false ≡ false
 unmarked zero t = refl
@@ -89,86 +83,36 @@ module _ {states : ℕ} {sgoto : List ℕ} where
   unfolding lowest_target
   done inv h = walk_end inv.walk h
 
-abbrev invariant-loop : tie.invariant-loop
-invariant-loop states sgoto seen₀ i₀ seen i = Passing states sgoto seen i
+pub loop-i-init : goal.loop-i-init
+loop-i-init c = begin
 
-abbrev decreases-loop : tie.decreases-loop
-decreases-loop states sgoto seen₀ i₀ seen i = length sgoto - i
+pub returns-then-i-eq0 : goal.returns-then-i-eq0
+returns-then-i-eq0 c =
+    let w = c.loop-i.invariant in
+    let h = c.loop-i-test.true in
+    bad w h (start-signed w h c.if-t-ne0.true c.if-i-eq0.true)
 
-loop-holds : tie.Need-loop-init invariant-loop decreases-loop
-loop-holds c = begin
+pub returns-then-states-t : goal.returns-then-states-t
+returns-then-states-t c =
+    let w = c.loop-i.invariant in
+    let h = c.loop-i-test.true in
+    bad w h (no-state w h c.if-t-ne0.true c.if-i-eq0.false c.if-states-t.true)
 
-mul-t : tie.Need-overflow-mul-t invariant-loop decreases-loop
-mul-t c = omega arith
+pub returns-then-seen-t : goal.returns-then-seen-t
+returns-then-seen-t c =
+    let w = c.loop-i.invariant in
+    let h = c.loop-i-test.true in
+    bad w h (twice w h c.if-t-ne0.true c.if-i-eq0.false c.if-states-t.false c.if-seen-t.true)
 
-shared-slice-read-t : tie.Need-shared-slice-read-t invariant-loop decreases-loop
-shared-slice-read-t c = c.before.loop-test.true
+pub loop-i-preserved : goal.loop-i-preserved
+loop-i-preserved c =
+    let w = c.loop-i.invariant in
+    let h = c.loop-i-test.true in
+    elim c.if-t-ne0.branch [
+      | then-t-ne0+else-i-eq0+else-states-t+else-seen-t d ↦
+          rw d.seen-is (marked w h d.if-t-ne0.true d.if-i-eq0.false d.if-states-t.false c.requires d.if-seen-t.false)
+      | else-t-ne0 d ↦ rw d.seen-is (none-signed w h d.if-t-ne0.false)
+    ]
 
-returns : tie.Need-returns invariant-loop decreases-loop
-returns c =
-    let w = c.before.before.before.before.loop.invariant in
-    let h = c.before.before.before.loop-test.true in
-    bad w h (start-signed w h c.before.if1.true c.if2.true)
-
-returns-2 : tie.Need-returns-2 invariant-loop decreases-loop
-returns-2 c =
-    let w = c.before.before.before.before.before.loop.invariant in
-    let h = c.before.before.before.before.loop-test.true in
-    bad w h (no-state w h c.before.before.if1.true c.before.if2.false c.if3.true)
-
-cast-if4 : tie.Need-overflow-cast-if4 invariant-loop decreases-loop
-cast-if4 c = omega (arith, c.before.before.before.before.before.before.requires)
-
-array-read-if4 : tie.Need-array-read-if4 invariant-loop decreases-loop
-array-read-if4 c = omega (arith, c.before.before.before.before.before.before.requires)
-
-returns-3 : tie.Need-returns-3 invariant-loop decreases-loop
-returns-3 c =
-    let w = c.before.before.before.before.before.before.loop.invariant in
-    let h = c.before.before.before.before.before.loop-test.true in
-    bad w h (twice w h c.before.before.before.if1.true c.before.before.if2.false c.before.if3.false c.if4.true)
-
-cast-seen : tie.Need-overflow-cast-seen invariant-loop decreases-loop
-cast-seen c = omega (arith, c.before.before.before.before.before.before.before.requires)
-
-array-write-seen : tie.Need-array-write-seen invariant-loop decreases-loop
-array-write-seen c = omega (arith, c.before.before.before.before.before.before.before.requires)
-
-add-i : tie.Need-overflow-add-i invariant-loop decreases-loop
-add-i c = omega arith
-
-loop-less : tie.Need-loop-smaller invariant-loop decreases-loop
-loop-less c = omega arith
-
-loop-again : tie.Need-loop-preserved invariant-loop decreases-loop
-loop-again c =
-    let w = c.before.before.before.loop.invariant in
-    let h = c.before.before.loop-test.true in
-    ⊎_elim
-    (λ d. rw d.4 (marked w h d.0.taken d.1.left d.2.left c.before.before.before.before.requires d.3.left))
-    (λ d. rw d.1 (none-signed w h d.0.left))
-    c.if1.branch
-
-returns-4 : tie.Need-returns-4 invariant-loop decreases-loop
-returns-4 c = done c.before.loop.invariant c.loop-test.false
-
-pub lowest_target_spec : {M : Type 1} → statement M
-lowest_target_spec =
-    tie.close
-    (tie.spec
-    invariant-loop
-    decreases-loop
-    loop-holds
-    mul-t
-    shared-slice-read-t
-    returns
-    returns-2
-    cast-if4
-    array-read-if4
-    returns-3
-    cast-seen
-    array-write-seen
-    add-i
-    loop-less
-    loop-again
-    returns-4)
+pub returns : goal.returns
+returns c = done c.loop-i.invariant c.loop-i-test.false
