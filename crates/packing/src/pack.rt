@@ -17,7 +17,7 @@ use tables::{Judged, Sizes};
 
 // The highest taken cell plus 1.
 fn count(marks: &[u32]) -> usize
-    ensures* { λ r. ⌜ r ≡ count_of marks.now ⌝ }
+    ensures { result ≡ count_of marks.now }
 {
     let mut n = marks.len();
     while 0 < n {
@@ -31,14 +31,14 @@ fn count(marks: &[u32]) -> usize
 
 // The four arrays have W, W, W and L elements, and W is within its bounds.
 fn arrays_fit(states: u32, base: &[i32], check: &[i32], marks: &[u32], place: &[u32]) -> bool
-    ensures* { λ r. ⌜ r ≡ arrays_fit states (bench base.now check.now marks.now place.now) ⌝ }
+    ensures { result ≡ arrays_fit states (bench base.now check.now marks.now place.now) }
 {
     cells_fit(base, check) && (marks.len() == base.len() && place.len() == states as usize)
 }
 
 // The judgement refuses nothing.
 fn is_good(j: Judged) -> bool
-    ensures* { λ r. ⌜ r ≡ eqb (judged_said j).number 0 ⌝ }
+    ensures { result ≡ eqb (judged_said j).number 0 }
 {
     match j {
         Judged::Good => true,
@@ -63,7 +63,7 @@ fn pack_judged(
     place: &mut [u32],
 ) -> Packing
     requires { Ready z states table.now srule.now sgoto.now × Sized states (bench base.old check.old marks.old place.old) }
-    ensures* { λ r. ⌜ packing_result (said_of r) (bench base.new check.new marks.new place.new) ≡ placed_by (placement_b (job_of twice z states table.now srule.now sgoto.now) (length base.old) (bound (job_of twice z states table.now srule.now sgoto.now))) (bench base.old check.old marks.old place.old) ⌝ }
+    ensures { packing_result (said_of result) (bench base.new check.new marks.new place.new) ≡ placed_by (placement_b (job_of twice z states table.now srule.now sgoto.now) (length base.old) (bound (job_of twice z states table.now srule.now sgoto.now))) (bench base.old check.old marks.old place.old) }
 {
     wipe(base, check, marks, place, z.symbols);
     if place_all(z, states, table, srule, sgoto, base, check, marks, place) {
@@ -89,7 +89,7 @@ pub fn pack(
     marks: &mut [u32],
     place: &mut [u32],
 ) -> Packing
-    ensures* { λ r. ⌜ packing_result (said_of r) (bench base.new check.new marks.new place.new) ≡ packed z states left.now lens.now rights.now table.now srule.now sgoto.now (bench base.old check.old marks.old place.old) ⌝ }
+    ensures { packing_result (said_of result) (bench base.new check.new marks.new place.new) ≡ packed z states left.now lens.now rights.now table.now srule.now sgoto.now (bench base.old check.old marks.old place.old) }
 {
     if arrays_fit(states, base, check, marks, place) {
         let j = judge(z, states, left, lens, rights, table, srule, sgoto);

@@ -10,7 +10,6 @@ use Rattle.cells.specs.declared.Way.TheVariants.{Direct, Pointer}
 use Rattle.cells.specs.declared.Read.{Read}
 use Rattle.cells.specs.declared.Read.TheVariants.{Shift, Blank, Malformed}
 use Rattle.cells.specs.Read.{Kind, action, goto, Cells, is_pos, is_number, found, is_state, state_read, sign_read, entry_read, default_read, read_at, read_from, base_for, read_cell}
-use Rattle.packing.specs.Board.{target}
 
 and-cong : (t : Bool) {p q : Bool} → (t ≡ true → p ≡ q) → (t && p) ≡ (t && q)
 and-cong true h = h refl

@@ -24,7 +24,6 @@ use Rattle.packing.specs.Laws.WellFormed.{OkTerm, OkGoto, InCols, WF}
 use Rattle.packing.specs.Laws.Sound.{IsHome, EntAt, Fit, Sound}
 use Rattle.packing.specs.Laws.Steps.{RowIn}
 use Rattle.packing.specs.Laws.Complete.{Complete}
-use Rattle.packing.specs.Laws.Tabulate.{two}
 use Rattle.packing.specs.Laws.Stores.{home-base}
 
 -- the cells of a board

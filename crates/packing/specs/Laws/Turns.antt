@@ -1,5 +1,5 @@
 -- The turn of a row and of a state, put together from the searches and the stores. Assumes nothing.
-use Rattle.std.specs.Prelude.{◌≡◌, Bool, not, cond, ℕ, zero, suc, ◌≤◌, get_or, set, eqb, ℤ, pos, negsuc}
+use Rattle.std.specs.Prelude.{◌≡◌, Bool, not, cond, ℕ, ◌≤◌, get_or, set, eqb, ℤ, pos, negsuc}
 use Rattle.std.proofs.Math.Path.{refl, sym, ap, ap₂}
 use Rattle.std.proofs.Common.{◌∙◌, true≢false}
 use Rattle.std.proofs.Math.Bool.{true, false, ◌&&◌}
@@ -11,7 +11,7 @@ use Rattle.number.specs.Number.{number_of, plus_of}
 use Rattle.number.specs.declared.Signed.TheVariants.{Plus}
 use Rattle.tables.specs.declared.Sizes.{Sizes}
 use Rattle.cells.specs.Read.{twice}
-use Rattle.cells.specs.Read.{action, goto}
+use Rattle.cells.specs.Read.{action}
 use Rattle.packing.specs.Job.{Act}
 use Rattle.packing.specs.declared.RowBase.{RowBase}
 use Rattle.packing.specs.declared.RowBase.TheVariants.{Empty, Shared, Own, NoRoom}

@@ -3,7 +3,6 @@ use Rattle.std.specs.Prelude.{◌≡◌, ℕ, ◌≤◌, ◌<◌}
 use Rattle.cells.specs.Read.{Kind, action, goto}
 use Rattle.packing.specs.Job.{Act, blank, shift, rule, Job}
 use Rattle.packing.specs.Rows.{row}
-use Rattle.packing.specs.Board.{target}
 use Rattle.packing.specs.Valid.{Edition}
 
 -- what may stand in a terminal column: a shift to 1..L-1 but not in column 0, a rule 1..G, and rule 1 in column 0 alone
