@@ -1,11 +1,11 @@
 use mathlib.Core.Path.{◌≡◌, sym, ap, ◌∙◌}
 use mathlib.Core.Bool.{true}
 use mathlib.Core.List.{List, [], ◌∷◌, ◌++◌}
-use Prim.Native.Nat.{ℕ, ◌+◌, ◌-◌, ◌≤◌}
+use Prim.Native.Nat.{ℕ, ◌-◌, ◌≤◌}
 use native.Mathlib.Omega.{arith}
 use lib.ListN.{length, get_or, take, drop, length-append, length-drop}
 use lib.Seq.{length-take-le, take_at, take-suc}
-use borrow.Author.Rules.{rules}
+use borrow.Author.Rules.{rules as all_rules}
 use Rattle.tables.specs.declared.Sizes.{Sizes}
 use Rattle.tables.specs.Said.{LINE}
 use Rattle.tables.specs.Size.{signing_fits}
@@ -17,12 +17,7 @@ use Rattle.sheets.specs.Lines.{lines_of}
 use Rattle.sheets.specs.Outcome.{read_outcome, signed_or, told_by}
 use Rattle.sheets.specs.Walk.{scanned, scan_of}
 use Rattle.sheets.specs.Laws.Reading.{read-good, read-bad}
-use Rattle.sheet_reader.proofs.read.scan.Reads as scan-reads
-use Rattle.sheet_reader.proofs.read.keep.Reads as keep-reads
-use Rattle.sheet_reader.proofs.read.read_by.Statement.{statement}
-use Rattle.sheet_reader.proofs.read.read_by.Tie as tie
-use Rattle.sheet_reader.proofs.read.read_by.Reads as reads
-use Rattle.sheet_reader.proofs.read.read_by.Lts as lts
+use Rattle.sheet_reader.proofs.read.read_by.Goals as goal
 
 -- the signing fits, and the two arrays a and b have room for one
 record Framed (z : Sizes) (states : ℕ) (srule sgoto a b : List ℕ) : Type 0 where
@@ -129,92 +124,39 @@ module _ {z : Sizes} {states : ℕ} {srule sgoto a b : List ℕ} (w : Framed z s
       bad {line} q = read-bad z states text srule sgoto _ _ (front_length ∙ w.fits.rules) lent line r t (rw q at s)
 
 -- what holds where the function starts
-abbrev Entered : Type 0
-Entered = lts.Start (scan-reads.Asked, scan-reads.Learnt, keep-reads.Asked, keep-reads.Learnt) reads.Pre reads.Post
+framed : {z : Sizes} {states : ℕ} {srule sgoto a b : List ℕ} → signing_fits z states srule sgoto ≡ true → length a ≡ 1024 → length b ≡ 512
+    → get_or b 0 0 ≡ 0 → Framed z states srule sgoto a b
+framed e m n s = record { fits = signing_fits_lem _ _ _ _ e; rules = m; targets = n; start = s }
 
-framed : (s : Entered) → Framed s.args.z s.args.states s.args.srule.now s.args.sgoto.now s.args.t4 s.args.t5
-framed s = record { fits = signing_fits_lem _ _ _ _ s.pre.0; rules = omega arith; targets = omega arith; start = s.pre.1 }
+pub slice_bounds-rules-end : goal.slice_bounds-rules-end
+slice_bounds-rules-end c = srule-room (framed {a = c.args.rules} {b = c.args.targets} c.requires.0 (search all_rules) (search all_rules) c.requires.1)
 
--- what holds after the lines were read
-abbrev Read : Type 0
-Read = lts.After-scan (scan-reads.Asked, scan-reads.Learnt, keep-reads.Asked, keep-reads.Learnt) reads.Pre reads.Post
+pub slice_bounds-scan-end : goal.slice_bounds-scan-end
+slice_bounds-scan-end c = sym (front_length (framed {a = c.args.rules} {b = c.args.targets} c.requires.0 (search all_rules) (search all_rules) c.requires.1))
 
-kept : (s : Read)
-    → Kept s.before.before.before.before.before.before.args.srule.now s.before.before.before.before.before.before.args.sgoto.now s.before.before.before.before.before.before.args.t4 s.before.before.before.before.before.before.args.t5 s.scan.last.1.1.1.0 s.scan.last.1.1.1.1.0
-kept s = record { rules = s.scan.kept.1.1.1.0; targets = s.scan.kept.1.1.1.1.0 }
+pub slice_bounds-scan-count : goal.slice_bounds-scan-count
+slice_bounds-scan-count c = sgoto-some (framed {a = c.args.rules} {b = c.args.targets} c.requires.0 (search all_rules) (search all_rules) c.requires.1)
 
-array-borrow-prefix-rules : tie.Need-array-borrow-prefix-rules
-array-borrow-prefix-rules c = srule-room (framed c.before.before.before)
+pub slice_bounds-targets-start : goal.slice_bounds-targets-start
+slice_bounds-targets-start c = sgoto-some (framed {a = c.args.rules} {b = c.args.targets} c.requires.0 (search all_rules) (search all_rules) c.requires.1)
 
-slice-aggregate-scan : tie.Need-slice-aggregate-scan
-slice-aggregate-scan c = sym (front_length (framed c.before.before.before.before))
+pub slice_bounds-targets-end : goal.slice_bounds-targets-end
+slice_bounds-targets-end c = sgoto-room (framed {a = c.args.rules} {b = c.args.targets} c.requires.0 (search all_rules) (search all_rules) c.requires.1)
 
-sub-scan : tie.Need-overflow-sub-scan
-sub-scan c = sgoto-some (framed c.before.before.before.before)
+pub scan-requires : goal.scan-requires
+scan-requires c = scanning (framed {a = c.args.rules} {b = c.args.targets} c.requires.0 (search all_rules) (search all_rules) c.requires.1)
 
-part-targets-start : tie.Need-slice-bounds-targets-start
-part-targets-start c = sgoto-some (framed c.before.before.before.before)
+pub slice_bounds-rules-end-in-To : goal.slice_bounds-rules-end-in-To
+slice_bounds-rules-end-in-To c = rules-room (framed {a = c.args.rules} {b = c.args.targets} c.requires.0 (search all_rules) (search all_rules) c.requires.1) (record { rules = c.scan.auto.rules; targets = c.scan.auto.targets })
 
-part-targets-end : tie.Need-slice-bounds-targets-end
-part-targets-end c = sgoto-room (framed c.before.before.before.before)
+pub slice_bounds-keep-end : goal.slice_bounds-keep-end
+slice_bounds-keep-end c = sym (ap length (rules-front (framed {a = c.args.rules} {b = c.args.targets} c.requires.0 (search all_rules) (search all_rules) c.requires.1) (record { rules = c.scan.auto.rules; targets = c.scan.auto.targets })) ∙ rules-length (framed {a = c.args.rules} {b = c.args.targets} c.requires.0 (search all_rules) (search all_rules) c.requires.1) (record { rules = c.scan.auto.rules; targets = c.scan.auto.targets }))
 
-scan-requires : tie.Need-scan-requires
-scan-requires c κs = scanning (framed c.before.before.before.before.before)
+pub keep-requires : goal.keep-requires
+keep-requires c = keeping (framed {a = c.args.rules} {b = c.args.targets} c.requires.0 (search all_rules) (search all_rules) c.requires.1) (record { rules = c.scan.auto.rules; targets = c.scan.auto.targets })
 
-enum-known-size : tie.Need-enum-known-size
-enum-known-size c = search rules
+pub returns-in-To : goal.returns-in-To
+returns-in-To c = rw (← read (framed {a = c.args.rules} {b = c.args.targets} c.requires.0 (search all_rules) (search all_rules) c.requires.1) (record { rules = c.scan.auto.rules; targets = c.scan.auto.targets }) _ _ c.scan.ensures c.in-To.is) c.keep.ensures
 
-array-share-prefix-rules : tie.Need-array-share-prefix-rules
-array-share-prefix-rules c = rules-room (framed c.before.before.before.before.before.before.before.before.before.before.before) (kept c.before.before.before.before.before)
-
-slice-aggregate-keep : tie.Need-slice-aggregate-keep
-slice-aggregate-keep c = sym (ap length (rules-front (framed c.before.before.before.before.before.before.before.before.before.before.before.before) (kept c.before.before.before.before.before.before)) ∙ rules-length (framed c.before.before.before.before.before.before.before.before.before.before.before.before) (kept c.before.before.before.before.before.before))
-
-array-share-prefix-targets : tie.Need-array-share-prefix-targets
-array-share-prefix-targets c = targets-room (framed c.before.before.before.before.before.before.before.before.before.before.before.before) (kept c.before.before.before.before.before.before)
-
-slice-aggregate-keep-2 : tie.Need-slice-aggregate-keep-2
-slice-aggregate-keep-2 c = sym (ap length (targets-front (framed c.before.before.before.before.before.before.before.before.before.before.before.before.before) (kept c.before.before.before.before.before.before.before)) ∙ targets-length (framed c.before.before.before.before.before.before.before.before.before.before.before.before.before) (kept c.before.before.before.before.before.before.before))
-
-keep-requires : tie.Need-keep-requires
-keep-requires c κs = keeping (framed c.before.before.before.before.before.before.before.before.before.before.before.before.before.before.before) (kept c.before.before.before.before.before.before.before.before.before)
-
-enum-known-line : tie.Need-enum-known-line
-enum-known-line c = search rules
-
-same_length : tie.Need-same-length
-same_length c = search rules
-
-same-length-2 : tie.Need-same-length-2
-same-length-2 c = search rules
-
-returns : tie.Need-returns
-returns c =
-    rw (← read (framed c.before.before.before.before.before.before.before.before.before.before.before.before.before.before.before.before.before.before.before.before) (kept c.before.before.before.before.before.before.before.before.before.before.before.before.before.before) _ _ c.before.before.before.before.before.before.before.before.before.before.before.before.before.before.scan.ensures c.before.before.before.before.before.before.before.before.before.before.size.given.1)
-    c.before.before.before.before.keep.ensures
-
-returns-2 : tie.Need-returns-2
-returns-2 c =
-    bad (framed c.before.before.before.before.before.before.before.before.before.before.before) (kept c.before.before.before.before.before) _ _ c.before.before.before.before.before.scan.ensures c.before.line.given.1
-
-pub read_by_spec : {M : Type 1} → statement M
-read_by_spec =
-    tie.close
-    (tie.spec
-    array-borrow-prefix-rules
-    slice-aggregate-scan
-    sub-scan
-    part-targets-start
-    part-targets-end
-    scan-requires
-    enum-known-size
-    array-share-prefix-rules
-    slice-aggregate-keep
-    array-share-prefix-targets
-    slice-aggregate-keep-2
-    keep-requires
-    enum-known-line
-    same_length
-    same-length-2
-    returns
-    returns-2)
+pub returns-in-Bad : goal.returns-in-Bad
+returns-in-Bad c = bad (framed {a = c.args.rules} {b = c.args.targets} c.requires.0 (search all_rules) (search all_rules) c.requires.1) (record { rules = c.scan.auto.rules; targets = c.scan.auto.targets }) _ _ c.scan.ensures c.in-Bad.is
