@@ -1,5 +1,3 @@
 pub mod Board
 pub mod Asked
 pub mod Worked
-pub mod Laws
-pub mod Theorems

@@ -3,7 +3,7 @@ use Rattle.std.specs.Prelude.{◌≡◌}
 use mathlib.Core.List.{Memᴰ}
 use Rattle.board.specs.Asked.{answered}
 use Rattle.board.specs.Worked.{Case, cases}
-use Rattle.board.specs.Laws.Worked.{every-case}
+use Rattle.board.proofs.Worked.{every-case}
 
 -- P1 to P12: what is asked in each case of the table is answered as the table says.
 pub worked : (c : Case) → Memᴰ c cases → answered c.asked ≡ c.answer
