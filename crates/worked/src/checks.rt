@@ -5,9 +5,11 @@ use crate::say;
 use answers::checked::checked;
 use board::Board;
 use soundness::verdict::check;
+use std::io;
+use std::io::Write;
 
 // What the check says of a board.
-fn line(name: &[u8], b: Board) {
+fn line<W: Write>(out: &mut W, name: &[u8], b: Board) -> io::Result<()> {
     let left = b.left;
     let lens = b.lens;
     let rights = b.rights;
@@ -17,14 +19,14 @@ fn line(name: &[u8], b: Board) {
     let c = check(
         b.sizes, b.states, &left, &lens, &rights, &table, &srule, &sgoto,
     );
-    say::text(name);
-    said(checked(c));
-    say::text(b"\n");
+    say::text(out, name)?;
+    said(out, checked(c))?;
+    say::text(out, b"\n")
 }
 
 // State 4 signed 4; state 1 signed 2, which fills nothing; state 0 signed 4.
-pub(crate) fn p10_and_p11() {
-    line(b"P10", signing(4, 4));
-    line(b"P11a", signing(1, 2));
-    line(b"P11b", signing(0, 4));
+pub(crate) fn p10_and_p11<W: Write>(out: &mut W) -> io::Result<()> {
+    line(out, b"P10", signing(4, 4))?;
+    line(out, b"P11a", signing(1, 2))?;
+    line(out, b"P11b", signing(0, 4))
 }

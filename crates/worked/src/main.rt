@@ -8,10 +8,13 @@ mod parses;
 mod said;
 mod say;
 
-fn main() {
-    parses::p1_to_p4();
-    parses::p5_to_p8();
-    packs::p9();
-    checks::p10_and_p11();
-    parses::p12();
+use std::io;
+
+fn main(rt: HostRuntime) -> io::Result<()> {
+    let mut out = io::writer(&rt);
+    parses::p1_to_p4(&mut out)?;
+    parses::p5_to_p8(&mut out)?;
+    packs::p9(&mut out)?;
+    checks::p10_and_p11(&mut out)?;
+    parses::p12(&mut out)
 }

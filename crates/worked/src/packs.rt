@@ -5,6 +5,8 @@ use answers::packed::packed;
 use board::Board;
 use packing::Packing;
 use packing::pack::pack;
+use std::io;
+use std::io::Write;
 
 // Packs a board into the lent cells.
 pub(crate) fn pack_board(
@@ -26,30 +28,36 @@ pub(crate) fn pack_board(
 }
 
 // What packing says of the small board and leaves in the lent arrays.
-fn line(name: &[u8], base: &mut [i32], check: &mut [i32], marks: &mut [u32]) {
+fn line<W: Write>(
+    out: &mut W,
+    name: &[u8],
+    base: &mut [i32],
+    check: &mut [i32],
+    marks: &mut [u32],
+) -> io::Result<()> {
     let mut place = [7u32; 7];
     let p = pack_board(board::small(), base, check, marks, &mut place);
-    say::text(name);
-    said(packed(p));
-    say::text(b" base");
-    say::cells(base);
-    say::text(b" check");
-    say::cells(check);
-    say::text(b" marks");
-    say::list(marks);
-    say::text(b" place");
-    say::list(&place);
-    say::text(b"\n");
+    say::text(out, name)?;
+    said(out, packed(p))?;
+    say::text(out, b" base")?;
+    say::cells(out, base)?;
+    say::text(out, b" check")?;
+    say::cells(out, check)?;
+    say::text(out, b" marks")?;
+    say::list(out, marks)?;
+    say::text(out, b" place")?;
+    say::list(out, &place)?;
+    say::text(out, b"\n")
 }
 
 // 20 cells are too few, 21 are enough.
-pub(crate) fn p9() {
+pub(crate) fn p9<W: Write>(out: &mut W) -> io::Result<()> {
     let mut base = [7i32; 20];
     let mut check = [7i32; 20];
     let mut marks = [7u32; 20];
-    line(b"P9a", &mut base, &mut check, &mut marks);
+    line(out, b"P9a", &mut base, &mut check, &mut marks)?;
     let mut base = [7i32; 21];
     let mut check = [7i32; 21];
     let mut marks = [7u32; 21];
-    line(b"P9b", &mut base, &mut check, &mut marks);
+    line(out, b"P9b", &mut base, &mut check, &mut marks)
 }

@@ -1,43 +1,38 @@
 // A line of output, word by word.
-use libc::STDOUT_FILENO;
-use number::{Signed, at_i32, at_u32};
+use number::{Signed, at_i32};
+use std::io;
+use std::io::Write;
 
 // Bytes as they stand.
-pub(crate) fn text(bytes: &[u8]) {
-    io::write_all(STDOUT_FILENO, bytes);
+pub(crate) fn text<W: Write>(out: &mut W, bytes: &[u8]) -> io::Result<()> {
+    out.write_all(bytes)
 }
 
 // A number, after a space.
-pub(crate) fn value(n: u64) {
-    text(b" ");
-    io::print_decimal(STDOUT_FILENO, n);
+pub(crate) fn value<W: Write>(out: &mut W, n: u64) -> io::Result<()> {
+    write!(out, " {n}")
 }
 
 // A number with its sign, after a space.
-fn signed(v: Signed) {
+fn signed<W: Write>(out: &mut W, v: Signed) -> io::Result<()> {
     match v {
-        Signed::Plus(n) => value(n as u64),
-        Signed::Minus(n) => {
-            text(b" -");
-            io::print_decimal(STDOUT_FILENO, n as u64);
-        }
+        Signed::Plus(n) => write!(out, " {n}"),
+        Signed::Minus(n) => write!(out, " -{n}"),
     }
 }
 
 // The numbers of a list.
-pub(crate) fn list(l: &[u32]) {
-    let mut i = 0;
-    while i < l.len() {
-        value(at_u32(l, i) as u64);
-        i += 1;
+pub(crate) fn list<W: Write>(out: &mut W, l: &[u32]) -> io::Result<()> {
+    for n in l {
+        value(out, *n as u64)?;
     }
+    Ok(())
 }
 
 // The numbers of Base or Check.
-pub(crate) fn cells(c: &[i32]) {
-    let mut i = 0;
-    while i < c.len() {
-        signed(at_i32(c, i));
-        i += 1;
+pub(crate) fn cells<W: Write>(out: &mut W, c: &[i32]) -> io::Result<()> {
+    for i in 0..c.len() {
+        signed(out, at_i32(c, i))?;
     }
+    Ok(())
 }
