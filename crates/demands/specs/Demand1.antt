@@ -1,5 +1,5 @@
 -- Demand 1: every entry point takes any table, cells, sheet or token list and ends with an answer of 'What is said back', each refusal exactly under its stated condition, with the lent arrays as stated.
--- To be believed: the contracts, by which `judge` says `judgement`, `pack` `packed`, `read` `read_said`, `plain_parse` `plain_parse`, `parse` `packed_parse` and `check` `checked`, for every input;
+-- To be believed: the contracts, by which `judge` says `judgement`, `pack` `packed`, `read` `read_said`, `plain_parse` the definition of its own name, `parse` `packed_parse` and `check` `checked`, for every input;
 -- Moves and Says in this folder; number/specs Number; tables/specs Said, Lists, Size, Grammar, Entry, Signing, Verdict;
 -- cells/specs Read, Size, Asked; packing/specs Job, Rows, Board, Packed, with `Bench` of Bench, `arrays_fit` of Packing and `wiped` of Turns; machine/specs Reads, Machine, Outcome, with `steps` of Steps;
 -- parser/specs Reads, Outcome; soundness/specs Path, Verdict, Answer; sheets/specs Decimal, Sheet, Lines, Outcome.

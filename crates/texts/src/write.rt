@@ -36,7 +36,7 @@ fn put_entry(buffer: &mut [u8], at: usize, key: &[u8], i: u32, v: u32) -> usize
 
 // Puts a line for each value, from entry `first` on.
 fn put_entries(buffer: &mut [u8], at: usize, key: &[u8], first: u32, values: &[u32]) -> usize
-    requires values_bound { first + length values.now ≤ 65535 }
+    requires numbers { first + length values.now ≤ 65535 }
     requires room { Room at (joined (entries key.now first values.now)) }
     ensures { Emitted buffer.old at (joined (entries key.now first values.now)) result buffer.new }
 {
@@ -63,7 +63,7 @@ fn put_header(buffer: &mut [u8], z: Sizes, states: u32) -> usize
 
 // Puts the text of a signing.
 fn put_text(buffer: &mut [u8], z: Sizes, states: u32, srule: &[u32], sgoto: &[u32]) -> usize
-    requires sgoto_value { signing_fits z states srule.now sgoto.now ≡ true }
+    requires fits { signing_fits z states srule.now sgoto.now ≡ true }
     requires room { Room 0 (sheet_text z states srule.now sgoto.now) }
     ensures { Emitted buffer.old 0 (sheet_text z states srule.now sgoto.now) result buffer.new }
 {
@@ -74,7 +74,7 @@ fn put_text(buffer: &mut [u8], z: Sizes, states: u32, srule: &[u32], sgoto: &[u3
 
 // Writes the text of a signing, if it is not longer than the buffer.
 fn write_text(z: Sizes, states: u32, srule: &[u32], sgoto: &[u32], buffer: &mut [u8]) -> Writing
-    requires sgoto_value { signing_fits z states srule.now sgoto.now ≡ true }
+    requires fits { signing_fits z states srule.now sgoto.now ≡ true }
     requires room { Room 0 (sheet_text z states srule.now sgoto.now) }
     ensures { write_outcome (write_said result) buffer.new ≡ put_or (sheet_text z states srule.now sgoto.now) buffer.old }
 {

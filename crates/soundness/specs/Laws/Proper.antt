@@ -13,7 +13,7 @@ use Rattle.tables.specs.Filled.{signed_action, filled_action, filled_action_at}
 use Rattle.tables.specs.Laws.Size.{SigningFits, signing_fits_lem, table_fits_lem}
 use Rattle.tables.specs.Laws.Grammar.{Inner}
 use Rattle.tables.specs.Laws.Entry.{TermOk, NontermOk}
-use Rattle.tables.specs.Laws.Signing.{RuleSigned, unsigned, by-rule as Signed-by}
+use Rattle.tables.specs.Laws.Signing.{RuleSigned, unsigned, by-rule as signed-by}
 use Rattle.tables.specs.Laws.Judgement.{WellFormed}
 use Rattle.machine.specs.Reads.{Act, shift, reduce, accept, blank, malformed, Go, goes, nowhere, broken, Reads, act_of, go_of, plain_reads, unsigned_reads}
 use Rattle.machine.specs.Laws.Simulation.{Rule}
@@ -70,7 +70,7 @@ module _ (z : Sizes) (states : ℕ) where
   signed-in : (n : ℕ) → RuleSigned z.rules n → RuleIn z.rules (act_of (signed_action n))
   unfolding signed_action
   signed-in n (unsigned e) = rw (eq-eqb n 0 e) tt
-  signed-in n (Signed-by l h) = rw (ne_eqb n 0 (λ q. omega arith)) (l, h)
+  signed-in n (signed-by l h) = rw (ne_eqb n 0 (λ q. omega arith)) (l, h)
 
   rule-in : (a n : ℕ) (e : ℤ) → TermOk z states a e → RuleSigned z.rules n → RuleIn z.rules (act_of (filled_action n (action_of (sign_of e))))
   rule-in a n (pos zero) k s = signed-in n s

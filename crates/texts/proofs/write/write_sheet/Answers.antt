@@ -13,7 +13,7 @@ pub write_text-requires : goal.write_text-requires
 write_text-requires c =
     let a = c.args in
     let y : Signed a.z a.states a.srule.now a.sgoto.now = judged-signed _ _ _ _ (good-said c.judge_signing-judged.ensures c.in-Good.is) in
-    record { sgoto_value = y.fits; room = text-room _ _ _ _ y }
+    record { fits = y.fits; room = text-room _ _ _ _ y }
 
 pub returns : goal.returns
 returns c = c.write_text.ensures ∙ good-written _ _ _ _ _ (good-said c.judge_signing-judged.ensures c.in-Good.is)
