@@ -1,19 +1,20 @@
 // What the table check says, as numbers.
 ghost use Rattle.std.specs.Prelude.{◌≡◌};
-ghost use Rattle.soundness.specs.Answer.{said_of};
+ghost use Rattle.soundness.specs.Answer.{refused};
 ghost use Rattle.answers.specs.Answer.{answer_of};
 
 use crate::Answer;
-use crate::judged::judged;
 use crate::words::with_two;
-use soundness::Checked;
+use soundness::CheckRefusal;
 
-// The number and the values of each case of the check.
-pub fn checked(c: Checked) -> Answer
-    ensures { result ≡ answer_of (said_of c) }
-{
-    match c {
-        Checked::Judgement(j) => judged(j),
-        Checked::Unsound(s, r) => with_two(6, s as usize, r as usize),
+// The number and the values of what the check refuses.
+impl From<CheckRefusal> for Answer {
+    ghost from_gives = { λ e a. a ≡ answer_of (refused e) };
+
+    fn from(e: CheckRefusal) -> Answer {
+        match e {
+            CheckRefusal::Judged(e) => e.into(),
+            CheckRefusal::Unsound(s, r) => with_two(6, s as usize, r as usize),
+        }
     }
 }

@@ -1,17 +1,18 @@
 // Answers as Rust gets them: a number and its values.
 #![tactic(auto)]
 
-pub mod asked;
-pub mod checked;
-pub mod judged;
-pub mod packed;
-pub mod parsed;
-pub mod sheet;
+mod asked;
+mod checked;
+mod judged;
+mod packed;
+mod parsed;
+mod result;
+mod sheet;
 mod words;
 
-// The number of an answer, how many values come with it, and the values; 0 where there is none.
+// The number of an answer, how many values come with it, and the values; 0 where there is none. C takes it so, by its layout.
 #[repr(C)]
-#[derive(Clone, Copy)]
+#[derive(Clone, Copy, Debug, PartialEq, Eq)]
 pub struct Answer {
     pub number: u32,
     pub count: u32,
@@ -21,7 +22,7 @@ pub struct Answer {
 
 // The same, with the count of moves.
 #[repr(C)]
-#[derive(Clone, Copy)]
+#[derive(Clone, Copy, Debug, PartialEq, Eq)]
 pub struct ParseAnswer {
     pub number: u32,
     pub count: u32,

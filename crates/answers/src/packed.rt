@@ -1,20 +1,20 @@
 // What packing says, as numbers.
 ghost use Rattle.std.specs.Prelude.{◌≡◌};
-ghost use Rattle.packing.specs.Packing.{said_of};
+ghost use Rattle.packing.specs.Packing.{refused};
 ghost use Rattle.answers.specs.Answer.{answer_of};
 
 use crate::Answer;
-use crate::judged::judged;
-use crate::words::{bare, with_one};
-use packing::Packing;
+use crate::words::bare;
+use packing::PackRefusal;
 
-// The number and the values of each case of packing.
-pub fn packed(p: Packing) -> Answer
-    ensures { result ≡ answer_of (said_of p) }
-{
-    match p {
-        Packing::Packed(n) => with_one(0, n),
-        Packing::Refused(j) => judged(j),
-        Packing::NoRoom => bare(5),
+// The number and the values of what packing refuses.
+impl From<PackRefusal> for Answer {
+    ghost from_gives = { λ e a. a ≡ answer_of (refused e) };
+
+    fn from(e: PackRefusal) -> Answer {
+        match e {
+            PackRefusal::Judged(e) => e.into(),
+            PackRefusal::NoRoom => bare(5),
+        }
     }
 }

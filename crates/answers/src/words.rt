@@ -10,7 +10,7 @@ pub(crate) fn bare(number: u32) -> Answer
     ensures { result ≡ answer_of (answer number []) }
 {
     Answer {
-        number: number,
+        number,
         count: 0,
         first: 0,
         second: 0,
@@ -22,9 +22,9 @@ pub(crate) fn with_one(number: u32, first: usize) -> Answer
     ensures { result ≡ answer_of (answer number (first ∷ [])) }
 {
     Answer {
-        number: number,
+        number,
         count: 1,
-        first: first,
+        first,
         second: 0,
     }
 }
@@ -34,9 +34,9 @@ pub(crate) fn with_two(number: u32, first: usize, second: usize) -> Answer
     ensures { result ≡ answer_of (answer number (first ∷ second ∷ [])) }
 {
     Answer {
-        number: number,
+        number,
         count: 2,
-        first: first,
-        second: second,
+        first,
+        second,
     }
 }

@@ -1,6 +1,6 @@
 -- The table of worked cases, computed. Assumes nothing.
-use Rattle.std.specs.Prelude.{◌≡◌, refl}
-use mathlib.Core.List.{List, [], ◌∷◌, map, Memᴰ}
+use mathlib.Core.List.{Memᴰ}
+use Rattle.std.specs.Prelude.{◌≡◌, refl, List, [], ◌∷◌, map}
 use Rattle.tables.specs.Lists.{all, sum, among, or_at, lowest}
 use Rattle.tables.specs.Size.{numbers_fit, states_fit, rights_fit, grammar_fits, table_fits, signing_fits, all_fit}
 use Rattle.tables.specs.Grammar.{right_at, grammar, inner, on_right, good_sides, good_rule, lowest_rule}
@@ -19,7 +19,7 @@ use Rattle.packing.specs.Packing.{arrays_fit, count_of, packed}
 use Rattle.machine.specs.Reads.{plain_reads, unsigned_reads}
 use Rattle.machine.specs.Machine.{refused, after_shift, after_reduce, after_accept, current, pushed, written, gone, popped, acted, looked, move, then, run, begun, parse}
 use Rattle.machine.specs.Outcome.{leaves, job_fits, judged_then, plain_parse}
-use Rattle.parser.specs.Reads.{cell_reads}
+use Rattle.cells.specs.Reads.{cell_reads}
 use Rattle.parser.specs.Outcome.{packed_fits, packed_parse}
 use Rattle.soundness.specs.Lists.{kept, those, collect}
 use Rattle.soundness.specs.Check.{leads_to, arcs_from, arcs, grown, grow, reached, into, before, spelling, spells, may_precede, keeps, rules_at, rule_fault, state_fault, or_fault, least_fault, verdict_of, verdict_by, verdict_from, verdict}

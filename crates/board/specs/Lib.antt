@@ -1,3 +1,4 @@
 pub mod Board
+pub mod Lent
 pub mod Asked
 pub mod Worked

@@ -2,15 +2,16 @@
 #![tactic(auto)]
 
 ghost use Rattle.std.specs.Prelude.{◌≡◌};
-ghost use Rattle.board.specs.Board.{small as Board·small};
+ghost use Rattle.board.specs.Board.{small as small_board};
+ghost use Rattle.board.specs.Lent.{GrammarOf, TableOf, SigningOf};
 
 mod table;
 
 use crate::table::TABLE;
-use tables::Sizes;
+use tables::{Grammar, Signing, Sizes, Table};
 
 // A grammar of five rules over six symbols, a table of seven states for it, and a signing.
-#[derive(Clone, Copy)]
+#[derive(Clone, Copy, Debug, PartialEq, Eq)]
 pub struct Board {
     pub sizes: Sizes,
     pub states: u32,
@@ -22,9 +23,43 @@ pub struct Board {
     pub sgoto: [u32; 3],
 }
 
+impl Board {
+    // Its grammar.
+    pub fn grammar(&self) -> Grammar<'_>
+        ensures { GrammarOf self.now result }
+    {
+        Grammar {
+            sizes: self.sizes,
+            left: &self.left,
+            lens: &self.lens,
+            rights: &self.rights,
+        }
+    }
+
+    // Its table.
+    pub fn table(&self) -> Table<'_>
+        ensures { TableOf self.now result }
+    {
+        Table {
+            states: self.states,
+            entries: &self.table,
+        }
+    }
+
+    // Its signing.
+    pub fn signing(&self) -> Signing<'_>
+        ensures { SigningOf self.now result }
+    {
+        Signing {
+            rules: &self.srule,
+            targets: &self.sgoto,
+        }
+    }
+}
+
 // The small board, signed as on its sheet.
 pub fn small() -> Board
-    ensures { result ≡ Board·small }
+    ensures { result ≡ small_board }
 {
     Board {
         sizes: Sizes {

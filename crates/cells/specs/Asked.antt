@@ -1,14 +1,14 @@
 -- A read asked for by itself: SIZE, then BADCELL, then the answer.
-use Rattle.std.specs.Prelude.{ℕ, Bool, cond, ◌&&◌, List, [], ◌∷◌, ltb, ℤ}
+use Rattle.std.specs.Prelude.{ℕ, Bool, cond, ◌&&◌, List, [], ◌∷◌, ltb, ℤ, Option, Some, None, Result, Ok, Err}
 use Rattle.tables.specs.declared.Sizes.{Sizes}
 use Rattle.tables.specs.Said.{Said, OK, SIZE, BADCELL}
 use Rattle.tables.specs.Size.{numbers_fit}
-use Rattle.cells.specs.declared.Way.{Way}
-use Rattle.cells.specs.declared.Way.TheVariants.{Direct, Pointer}
-use Rattle.cells.specs.declared.Read.{Read}
-use Rattle.cells.specs.declared.Read.TheVariants as read
-use Rattle.cells.specs.declared.Asked.{Asked}
-use Rattle.cells.specs.declared.Asked.TheVariants.{Size, BadCell, Shift, Reduce, Accept, Blank}
+use Rattle.reads.specs.declared.Way.{Way}
+use Rattle.reads.specs.declared.Way.TheVariants.{Direct, Pointer}
+use Rattle.reads.specs.declared.Read.{Read}
+use Rattle.reads.specs.declared.Read.TheVariants.{Shift, Reduce, Accept, Blank}
+use Rattle.cells.specs.declared.ReadRefusal.{ReadRefusal}
+use Rattle.cells.specs.declared.ReadRefusal.TheVariants.{Size, BadCell}
 use Rattle.cells.specs.Read.{Kind, action, goto, cells_of, twice, read_cell}
 use Rattle.cells.specs.Size.{cells_fit}
 
@@ -17,22 +17,27 @@ abbrev pub shift_said : Way → Said
 shift_said (Direct y) = OK (0 ∷ y ∷ [])
 shift_said (Pointer y) = OK (1 ∷ y ∷ [])
 
--- the number and the values of each case: after a shift's, 2 and the rule, 3 for accept, 4 for blank
-abbrev pub said_of : Asked → Said
-said_of Size = SIZE
-said_of (BadCell x) = BADCELL x
-said_of (Shift w) = shift_said w
-said_of (Reduce r) = OK (2 ∷ r ∷ [])
-said_of Accept = OK (3 ∷ [])
-said_of Blank = OK (4 ∷ [])
+-- what is answered: after a shift's, 2 and the rule, 3 for accept, 4 for blank
+abbrev pub answered : Read → Said
+answered (Shift w) = shift_said w
+answered (Reduce r) = OK (2 ∷ r ∷ [])
+answered Accept = OK (3 ∷ [])
+answered Blank = OK (4 ∷ [])
+
+-- the number and the values of each refusal
+abbrev pub refused : ReadRefusal → Said
+refused Size = SIZE
+refused (BadCell x) = BADCELL x
+
+-- the number and the values of each case
+abbrev pub said_of : Result Read ReadRefusal → Said
+said_of (Ok r) = answered r
+said_of (Err e) = refused e
 
 -- what a read at cell x says
-abbrev pub read_says : ℕ → Read → Said
-read_says x (read.Shift w) = shift_said w
-read_says x (read.Reduce r) = OK (2 ∷ r ∷ [])
-read_says x read.Accept = OK (3 ∷ [])
-read_says x read.Blank = OK (4 ∷ [])
-read_says x read.Malformed = BADCELL x
+abbrev pub read_says : ℕ → Option Read → Said
+read_says x (Some r) = answered r
+read_says x None = BADCELL x
 
 -- T terminals have actions, the other symbols gotos
 unfoldable pub kind_of : Sizes → ℕ → Kind

@@ -1,4 +1,5 @@
 pub mod Read
+pub mod Reads
 pub mod Parts
 pub mod Size
 pub mod Asked

@@ -2,33 +2,13 @@
 #![tactic(auto)]
 
 pub mod ask;
+pub mod reader;
 pub mod reading;
 pub mod size;
 
-// Where the cell of a shift's state was found: at the symbol's own cell, or through a pointer there.
-#[derive(Clone, Copy)]
-pub enum Way {
-    Direct(usize),
-    Pointer(usize),
-}
-
-// What a read answers.
-#[derive(Clone, Copy)]
-pub enum Read {
-    Shift(Way),
-    Reduce(u32),
-    Accept,
-    Blank,
-    Malformed,
-}
-
-// What a read that is asked for by itself says.
-#[derive(Clone, Copy)]
-pub enum Asked {
+// What a read that is asked for by itself refuses: a number or a length, or a cell that is malformed.
+#[derive(Clone, Copy, Debug, PartialEq, Eq)]
+pub enum ReadRefusal {
     Size,
     BadCell(usize),
-    Shift(Way),
-    Reduce(u32),
-    Accept,
-    Blank,
 }

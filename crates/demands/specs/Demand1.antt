@@ -1,12 +1,12 @@
 -- Demand 1: every entry point takes any table, cells, sheet or token list and ends with an answer of 'What is said back', each refusal exactly under its stated condition, with the lent arrays as stated.
 -- To be believed: the contracts, by which `judge` says `judgement`, `pack` `packed`, `read` `read_said`, `plain_parse` the definition of its own name, `parse` `packed_parse` and `check` `checked`, for every input;
 -- Moves and Says in this folder; number/specs Number; tables/specs Said, Lists, Size, Grammar, Entry, Signing, Verdict;
--- cells/specs Read, Size, Asked; packing/specs Job, Rows, Board, Packed, with `Bench` of Bench, `arrays_fit` of Packing and `wiped` of Turns; machine/specs Reads, Machine, Outcome, with `steps` of Steps;
--- parser/specs Reads, Outcome; soundness/specs Path, Verdict, Answer; sheets/specs Decimal, Sheet, Lines, Outcome.
-use Rattle.std.specs.Prelude.{◌≡◌, ◌↔◌, ◌⊎◌, List, ℕ, ◌≤◌, ℤ}
+-- reads/specs Read, Reads; cells/specs Read, Reads, Size, Asked; packing/specs Job, Rows, Board, Packed, with `Bench` of Bench, `arrays_fit` of Packing and `wiped` of Turns; machine/specs Types, Reads, Machine, Outcome, with `steps` of Steps;
+-- parser/specs Outcome; soundness/specs Path, Verdict, Answer; sheets/specs Decimal, Sheet, Lines, Outcome.
+use Rattle.std.specs.Prelude.{◌≡◌, ◌↔◌, ◌⊎◌, List, ℕ, ◌≤◌, ℤ, Result as Returns}
 use Rattle.std.proofs.Common.{sym, ap, ◌∙◌}
 use Rattle.tables.specs.declared.Sizes.{Sizes}
-use Rattle.tables.specs.declared.Judged.{Judged}
+use Rattle.tables.specs.declared.Refusal.{Refusal}
 use Rattle.tables.specs.Said.{Said}
 use Rattle.tables.specs.Grammar.{Grammar}
 use Rattle.tables.specs.Judgement as tables
@@ -14,29 +14,30 @@ use Rattle.tables.specs.Judgement.{judgement, grammar_judgement}
 use Rattle.tables.specs.Verdict.{Verdict}
 use Rattle.tables.specs.Laws.Judgement.{said-once}
 use Rattle.tables.specs.Laws.Numbers.{judged-low}
-use Rattle.cells.specs.declared.Asked.{Asked}
+use Rattle.reads.specs.declared.Read.{Read}
+use Rattle.cells.specs.declared.ReadRefusal as asked
 use Rattle.cells.specs.Asked as cells
 use Rattle.cells.specs.Asked.{read_said}
 use Rattle.cells.specs.Laws.Asked as read
-use Rattle.packing.specs.declared.Packing.{Packing}
+use Rattle.packing.specs.declared.PackRefusal.{PackRefusal}
 use Rattle.packing.specs.Bench.{Bench}
 use Rattle.packing.specs.Packing as packing
 use Rattle.packing.specs.Packing.{Result, packing_result, packed}
 use Rattle.packing.specs.Laws.Outcome.{packing-once}
 use Rattle.packing.specs.Laws.Numbers.{packed-low}
-use Rattle.machine.specs.declared.Parsed.{Parsed}
-use Rattle.machine.specs.Reads.{Reads}
+use Rattle.machine.specs.Types.{Parsed}
+use Rattle.reads.specs.Reads.{Reads}
 use Rattle.machine.specs.Machine as machine
 use Rattle.machine.specs.Machine.{Job, Config, Step, move}
 use Rattle.machine.specs.Outcome.{said_of, moves_of, Outcome, outcome, plain_parse}
 use Rattle.machine.specs.Laws.Outcome.{outcome-once}
 use Rattle.parser.specs.Outcome.{packed_parse}
-use Rattle.soundness.specs.declared.Checked.{Checked}
+use Rattle.soundness.specs.declared.CheckRefusal.{CheckRefusal}
 use Rattle.soundness.specs.Outcome.{checked}
 use Rattle.soundness.specs.Answer as check
 use Rattle.soundness.specs.Laws.Answer.{answer-once}
-use Rattle.sheets.specs.declared.Reading.{Reading}
-use Rattle.sheets.specs.declared.Writing.{Writing}
+use Rattle.sheets.specs.declared.ReadRefusal.{ReadRefusal}
+use Rattle.sheets.specs.declared.WriteRefusal.{WriteRefusal}
 use Rattle.sheets.specs.Outcome.{read_said as sheet_read_said, write_said, read_outcome, write_outcome, sheet_read, sheet_write}
 use Rattle.sheets.specs.Theorems as sheets
 use Rattle.demands.specs.Moves.{SaysMove, RunEnds}
@@ -57,7 +58,7 @@ module _ (z : Sizes) (states : ℕ) (left lens rights : List ℕ) (table : List 
   judge-numbers = judged-low z states left lens rights table srule sgoto
 
   -- Any two answers that its contract allows for one input are equal.
-  pub judge-once : (a b : Judged) → tables.said_of a ≡ judgement z states left lens rights table srule sgoto → tables.said_of b ≡ judgement z states left lens rights table srule sgoto → a ≡ b
+  pub judge-once : (a b : Returns (Unit {0}) Refusal) → tables.said_of a ≡ judgement z states left lens rights table srule sgoto → tables.said_of b ≡ judgement z states left lens rights table srule sgoto → a ≡ b
   judge-once a b e f = said-once a b (e ∙ sym f)
 
   -- `pack` says each of its answers, and leaves the four arrays, exactly as its rows have it: unchanged, 0 everywhere, or the packed cells.
@@ -69,7 +70,7 @@ module _ (z : Sizes) (states : ℕ) (left lens rights : List ℕ) (table : List 
   pack-numbers = packed-low z states left lens rights table srule sgoto
 
   -- Any two outcomes that its contract allows for one input are equal, the arrays too.
-  pub pack-once : (B : Bench) (a b : Packing) {A C : Bench} → packing_result (packing.said_of a) A ≡ packed z states left lens rights table srule sgoto B
+  pub pack-once : (B : Bench) (a b : Returns ℕ PackRefusal) {A C : Bench} → packing_result (packing.said_of a) A ≡ packed z states left lens rights table srule sgoto B
       → packing_result (packing.said_of b) C ≡ packed z states left lens rights table srule sgoto B → (a ≡ b) × (A ≡ C)
   pack-once B a b e f = (packing-once a b (ap (λ (r : Result). r.said) (e ∙ sym f)), ap (λ (r : Result). r.arrays) (e ∙ sym f))
 
@@ -82,7 +83,7 @@ module _ (z : Sizes) (states : ℕ) (left lens rights : List ℕ) (table : List 
   check-numbers = numbers.check-number z states left lens rights table srule sgoto
 
   -- Any two answers that its contract allows for one input are equal.
-  pub check-once : (a b : Checked) → check.said_of a ≡ checked z states left lens rights table srule sgoto → check.said_of b ≡ checked z states left lens rights table srule sgoto → a ≡ b
+  pub check-once : (a b : Returns (Unit {0}) CheckRefusal) → check.said_of a ≡ checked z states left lens rights table srule sgoto → check.said_of b ≡ checked z states left lens rights table srule sgoto → a ≡ b
   check-once a b e f = answer-once a b (e ∙ sym f)
 
   module _ (tokens : List ℕ) (limit : ℕ) (stack list : List ℕ) where
@@ -135,7 +136,7 @@ module _ (z : Sizes) (base check : List ℤ) (x a : ℕ) where
   read-numbers = numbers.read_number z base check x a
 
   -- Any two answers that its contract allows for one input are equal.
-  pub read-once : (p q : Asked) → cells.said_of p ≡ read_said z base check x a → cells.said_of q ≡ read_said z base check x a → p ≡ q
+  pub read-once : (p q : Returns Read asked.ReadRefusal) → cells.said_of p ≡ read_said z base check x a → cells.said_of q ≡ read_said z base check x a → p ≡ q
   read-once p q e f = read.said-once p q (e ∙ sym f)
 
 module _ (g : Grammar) (m : Reads) (j : Job) where
@@ -149,13 +150,13 @@ module _ (g : Grammar) (m : Reads) (j : Job) where
 
 module _ (z : Sizes) (states : ℕ) (srule sgoto : List ℕ) where
   -- The sheet's reader says SIZE, LINE, SIGN or OK as its definition has it, the signing unchanged but with OK; any two outcomes that its contract allows for one input are equal, the signing too.
-  pub sheet-read-once : (text : List ℕ) (a b : Reading) {rules targets rules₂ targets₂ : List ℕ}
+  pub sheet-read-once : (text : List ℕ) (a b : Returns ℕ ReadRefusal) {rules targets rules₂ targets₂ : List ℕ}
       → read_outcome (sheet_read_said a) rules targets ≡ sheet_read z states text srule sgoto → read_outcome (sheet_read_said b) rules₂ targets₂ ≡ sheet_read z states text srule sgoto
       → (a ≡ b) × (rules ≡ rules₂) × (targets ≡ targets₂)
   sheet-read-once text a b = sheets.read-one-outcome a b _ _ _ _ (sheet_read z states text srule sgoto)
 
   -- The writer says SIZE, SIGN, TEXT or OK as its definition has it, the buffer unchanged but with OK; any two outcomes that its contract allows for one input are equal, the buffer too.
-  pub sheet-write-once : (buffer : List ℕ) (a b : Writing) {after after₂ : List ℕ}
+  pub sheet-write-once : (buffer : List ℕ) (a b : Returns ℕ WriteRefusal) {after after₂ : List ℕ}
       → write_outcome (write_said a) after ≡ sheet_write z states srule sgoto buffer → write_outcome (write_said b) after₂ ≡ sheet_write z states srule sgoto buffer
       → (a ≡ b) × (after ≡ after₂)
   sheet-write-once buffer a b = sheets.write-one-outcome a b _ _ (sheet_write z states srule sgoto buffer)

@@ -1,9 +1,8 @@
 -- Demand 2: packed cells answer as the written table with only the signed blanks filled, and a packed parse is the plain machine's, in reductions, refusal, place and count of moves; a sheet written and read back is the same sheet, and no second text has its meaning.
 -- To be believed: demand 1 with what it names; Room in this folder; tables/specs Filled; packing/specs Promises; machine/specs Steps, Carry.
-use Rattle.std.specs.Prelude.{◌≡◌, ◌≢◌, true, List, [], ◌∷◌, ℕ, ◌-◌, ◌≤◌, ◌<◌, ℤ, length, get_or, take}
+use Rattle.std.specs.Prelude.{◌≡◌, ◌≢◌, true, List, [], ◌∷◌, ℕ, ◌-◌, ◌≤◌, ◌<◌, ℤ, length, get_or, take, None}
 use Rattle.tables.specs.declared.Sizes.{Sizes}
 use Rattle.tables.specs.declared.Action.TheVariants as action
-use Rattle.tables.specs.declared.Goto.TheVariants as goto
 use Rattle.tables.specs.Said.{OK}
 use Rattle.tables.specs.Size.{signing_fits}
 use Rattle.tables.specs.Grammar.{Grammar, grammar}
@@ -21,7 +20,7 @@ use Rattle.machine.specs.Machine.{Job, start, parse}
 use Rattle.machine.specs.Outcome.{plain_parse}
 use Rattle.machine.specs.Carry.{carry_step}
 use Rattle.machine.specs.Steps.{steps, Made}
-use Rattle.parser.specs.Reads.{cell_reads}
+use Rattle.cells.specs.Reads.{cell_reads}
 use Rattle.parser.specs.Outcome.{packed_parse}
 use Rattle.parser.specs.Theorems as parser
 use Rattle.demands.specs.Room.{Takes}
@@ -41,11 +40,11 @@ module _ (z : Sizes) (table : List ℤ) (srule sgoto : List ℕ) where
   blank-action = filled.blank-action z table srule
 
   -- A written goto stays as it is.
-  pub written-goto : (s x : ℕ) → goto_at z table s x ≢ goto.Blank → filled_goto_at z table sgoto s x ≡ goto_at z table s x
+  pub written-goto : (s x : ℕ) → goto_at z table s x ≢ None → filled_goto_at z table sgoto s x ≡ goto_at z table s x
   written-goto = filled.written-goto z table sgoto
 
   -- A blank one is the signed state of the nonterminal, and stays blank where none is signed.
-  pub blank-goto : (s x : ℕ) → goto_at z table s x ≡ goto.Blank → filled_goto_at z table sgoto s x ≡ signed_goto (get_or sgoto (x - z.terminals) 0)
+  pub blank-goto : (s x : ℕ) → goto_at z table s x ≡ None → filled_goto_at z table sgoto s x ≡ signed_goto (get_or sgoto (x - z.terminals) 0)
   blank-goto = filled.blank-goto z table sgoto
 
 -- What is not refused is packed: there is one number of cells from which on `pack` says OK, and below it NOROOM.

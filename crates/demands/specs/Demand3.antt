@@ -1,13 +1,12 @@
 -- Demand 3: a table that passes the check never fails under the parser, and what the parser accepts is derived; the check is exact.
 -- To be believed: demand 1 with what it names; soundness/specs Derivation; tables/specs Filled.
-use Rattle.std.specs.Prelude.{◌≡◌, ◌≢◌, ◌↔◌, true, List, [], ◌∷◌, reverse, ℕ, ℤ, get_or, take}
+use Rattle.std.specs.Prelude.{◌≡◌, ◌≢◌, ◌↔◌, true, List, [], ◌∷◌, reverse, ℕ, ℤ, get_or, take, Ok}
 use Rattle.tables.specs.declared.Sizes.{Sizes}
 use Rattle.tables.specs.Said.{OK, UNSOUND}
 use Rattle.tables.specs.Grammar.{grammar}
 use Rattle.tables.specs.Judgement.{judgement}
 use Rattle.packing.specs.Bench.{Bench}
 use Rattle.packing.specs.Packing.{packing_result, packed}
-use Rattle.machine.specs.declared.Answer.TheVariants.{Accepted}
 use Rattle.machine.specs.Reads.{plain_reads, unsigned_reads}
 use Rattle.machine.specs.Machine.{parse}
 use Rattle.machine.specs.Outcome.{leaves, job_fits, job, plain_parse}
@@ -63,7 +62,7 @@ module _ (z : Sizes) (states : ℕ) (left lens rights : List ℕ) (table : List 
         (soundness.derives z states left lens rights table srule sgoto passed tokens limit stack list)
 
     -- What the unsigned table accepts, tokens and limit being in their bounds, is accepted with the same reductions and count of moves, in the same room and limit.
-    pub keeps : (k : ℕ) → job_fits tokens limit ≡ true → (parse (grammar z left lens rights) (unsigned_reads z table) (job tokens stack list) limit).answer ≡ Accepted k
+    pub keeps : (k : ℕ) → job_fits tokens limit ≡ true → (parse (grammar z left lens rights) (unsigned_reads z table) (job tokens stack list) limit).answer ≡ Ok k
         → packed_parse z left lens rights C.bases C.checks tokens limit stack list
         ≡ leaves (parse (grammar z left lens rights) (unsigned_reads z table) (job tokens stack list) limit) stack list
     keeps =

@@ -1,17 +1,16 @@
 -- 'One move' row by row: each answer and the condition under which it is given; and how a run of moves ends.
-use Rattle.std.specs.Prelude.{◌≡◌, List, ◌∷◌, ℕ, suc, ◌+◌, ◌≤◌, ◌<◌, length, drop}
+use Rattle.std.specs.Prelude.{◌≡◌, List, ◌∷◌, ℕ, suc, ◌+◌, ◌≤◌, ◌<◌, length, drop, Some, None, Err}
 use Rattle.tables.specs.Grammar.{Grammar}
-use Rattle.machine.specs.declared.Current.TheVariants.{Is, Wrong}
-use Rattle.machine.specs.declared.Answer.{Answer}
-use Rattle.machine.specs.declared.Answer.TheVariants.{Token, Syntax, Underflow, NoGoto, Stack, Output, Moves, BadCell}
-use Rattle.machine.specs.Reads.{Act, shift, reduce, accept, blank, malformed, goes, nowhere, broken, Reads}
+use Rattle.machine.specs.declared.Stop.{Stop}
+use Rattle.machine.specs.declared.Stop.TheVariants.{Token, Syntax, Underflow, NoGoto, Stack, Output, Moves, BadCell}
+use Rattle.reads.specs.Reads.{Act, shift, reduce, accept, blank, malformed, goes, nowhere, broken, Reads}
 use Rattle.machine.specs.Machine.{Job, Config, Result, Step, on, halt, refused, after_shift, after_reduce, after_accept, current, move, start}
 use Rattle.machine.specs.Steps.{steps}
 
 module _ (g : Grammar) (m : Reads) (j : Job) (c : Config) where
   -- the current token is a, and x is read there at the state on top
   abbrev pub Reading : ℕ → Act → Type 0
-  Reading a x = (current g.T j.tokens c.place ≡ Is a) × (m.act c.state a ≡ x)
+  Reading a x = (current g.T j.tokens c.place ≡ Some a) × (m.act c.state a ≡ x)
 
   -- how many states are on the stack
   abbrev pub depth : ℕ
@@ -22,12 +21,12 @@ module _ (g : Grammar) (m : Reads) (j : Job) (c : Config) where
   Uncovers r p ps = drop (length (g.right r)) (c.state ∷ c.below) ≡ p ∷ ps
 
   -- the run ends here
-  abbrev pub stop : Answer → Step
-  stop a = halt (refused a c)
+  abbrev pub stop : Stop → Step
+  stop e = halt (refused (Err e) c)
 
   -- a move, the limit not being reached
   pub data SaysMove : Step → Type 0 where
-    token : current g.T j.tokens c.place ≡ Wrong → SaysMove (stop (Token c.place))
+    token : current g.T j.tokens c.place ≡ None → SaysMove (stop (Token c.place))
     bad-cell : (a : ℕ) → Reading a malformed → SaysMove (stop (BadCell c.state))
     syntax : (a : ℕ) → Reading a blank → SaysMove (stop (Syntax c.place))
     shift-full : (a t : ℕ) → Reading a (shift t) → j.stack ≤ depth → SaysMove (stop (Stack c.place))
@@ -47,6 +46,6 @@ module _ (g : Grammar) (m : Reads) (j : Job) (c : Config) where
 
 -- a run: STACK at 0 before any move where there is no stack, else what the first move says that ends it, or MOVES where as many are made as the limit allows
 pub data RunEnds (g : Grammar) (m : Reads) (j : Job) (limit : ℕ) : Result → Type 0 where
-  no_stack : j.stack ≡ 0 → RunEnds g m j limit (refused (Stack 0) start)
+  no_stack : j.stack ≡ 0 → RunEnds g m j limit (refused (Err (Stack 0)) start)
   halted : {r : Result} → 0 < j.stack → (k : ℕ) (c : Config) → k < limit → steps g m j k start ≡ on c → move g m j c ≡ halt r → RunEnds g m j limit r
-  limited : 0 < j.stack → (c : Config) → steps g m j limit start ≡ on c → RunEnds g m j limit (refused (Moves c.place) c)
+  limited : 0 < j.stack → (c : Config) → steps g m j limit start ≡ on c → RunEnds g m j limit (refused (Err (Moves c.place)) c)

@@ -1,5 +1,5 @@
 -- 'What is said back', entry point by entry point: each answer, the condition under which it is given, and what the lent arrays then hold.
-use Rattle.std.specs.Prelude.{◌≡◌, ◌≢◌, true, false, List, [], ◌∷◌, ℕ, ◌+◌, ℤ, length}
+use Rattle.std.specs.Prelude.{◌≡◌, ◌≢◌, true, false, List, [], ◌∷◌, ℕ, ◌+◌, ℤ, length, Option, Some, None}
 use Rattle.std.proofs.Math.Option.{none, some}
 use Rattle.tables.specs.declared.Sizes.{Sizes}
 use Rattle.tables.specs.Said.{Said, OK, SIZE, GRAMMAR, NOROOM, UNSOUND, BADCELL}
@@ -7,9 +7,9 @@ use Rattle.tables.specs.Size.{grammar_fits}
 use Rattle.tables.specs.Grammar.{grammar, good_rule}
 use Rattle.tables.specs.Judgement.{judgement, grammar_judgement}
 use Rattle.tables.specs.Verdict.{Passed, Least}
-use Rattle.cells.specs.declared.Way.TheVariants.{Direct, Pointer}
-use Rattle.cells.specs.declared.Read.{Read}
-use Rattle.cells.specs.declared.Read.TheVariants.{Shift, Reduce, Accept, Blank, Malformed}
+use Rattle.reads.specs.declared.Way.TheVariants.{Direct, Pointer}
+use Rattle.reads.specs.declared.Read.{Read}
+use Rattle.reads.specs.declared.Read.TheVariants.{Shift, Reduce, Accept, Blank}
 use Rattle.cells.specs.Read.{twice, cells_of, read_cell}
 use Rattle.cells.specs.Asked.{kind_of, read_fits}
 use Rattle.packing.specs.Job.{job_of}
@@ -21,7 +21,7 @@ use Rattle.packing.specs.Written.{bench}
 use Rattle.machine.specs.Reads.{plain_reads, unsigned_reads}
 use Rattle.machine.specs.Machine as machine
 use Rattle.machine.specs.Outcome.{Outcome, unchanged, leaves, job_fits, job}
-use Rattle.parser.specs.Reads.{cell_reads}
+use Rattle.cells.specs.Reads.{cell_reads}
 use Rattle.parser.specs.Outcome.{packed_fits}
 use Rattle.soundness.specs.Verdict.{Sound, Unsound}
 use Rattle.demands.specs.Moves.{RunEnds}
@@ -44,18 +44,18 @@ module _ (z : Sizes) (left lens rights : List ℕ) where
 
 module _ (z : Sizes) (base check : List ℤ) (x a : ℕ) where
   -- what the cells answer for symbol a at cell x
-  abbrev pub answer : Read
+  abbrev pub answer : Option Read
   answer = read_cell (kind_of z a) (cells_of z.rules twice base check) x a
 
   -- a read by itself
   pub data SaysRead : Said → Type 0 where
     size : read_fits z base check a ≡ false → SaysRead SIZE
-    bad-cell : read_fits z base check a ≡ true → answer ≡ Malformed → SaysRead (BADCELL x)
-    direct : (y : ℕ) → read_fits z base check a ≡ true → answer ≡ Shift (Direct y) → SaysRead (OK (0 ∷ y ∷ []))
-    pointer : (y : ℕ) → read_fits z base check a ≡ true → answer ≡ Shift (Pointer y) → SaysRead (OK (1 ∷ y ∷ []))
-    reduce : (r : ℕ) → read_fits z base check a ≡ true → answer ≡ Reduce r → SaysRead (OK (2 ∷ r ∷ []))
-    accept : read_fits z base check a ≡ true → answer ≡ Accept → SaysRead (OK (3 ∷ []))
-    blank : read_fits z base check a ≡ true → answer ≡ Blank → SaysRead (OK (4 ∷ []))
+    bad-cell : read_fits z base check a ≡ true → answer ≡ None → SaysRead (BADCELL x)
+    direct : (y : ℕ) → read_fits z base check a ≡ true → answer ≡ Some (Shift (Direct y)) → SaysRead (OK (0 ∷ y ∷ []))
+    pointer : (y : ℕ) → read_fits z base check a ≡ true → answer ≡ Some (Shift (Pointer y)) → SaysRead (OK (1 ∷ y ∷ []))
+    reduce : (r : ℕ) → read_fits z base check a ≡ true → answer ≡ Some (Reduce r) → SaysRead (OK (2 ∷ r ∷ []))
+    accept : read_fits z base check a ≡ true → answer ≡ Some Accept → SaysRead (OK (3 ∷ []))
+    blank : read_fits z base check a ≡ true → answer ≡ Some Blank → SaysRead (OK (4 ∷ []))
 
 module _ (z : Sizes) (states : ℕ) (left lens rights : List ℕ) (table : List ℤ) (srule sgoto : List ℕ) where
   -- SIZE, GRAMMAR, ENTRY, SIGN: what the others begin with

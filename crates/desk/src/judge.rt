@@ -1,11 +1,10 @@
-// The judgement, exported.
+// The judgement, exported. C lends numbers and slices, so they stand apart here.
 ghost use Rattle.std.specs.Prelude.{◌≡◌};
 ghost use Rattle.tables.specs.Judgement.{judgement};
 ghost use Rattle.answers.specs.Answer.{answer_of};
 
 use answers::Answer;
-use answers::judged::judged;
-use tables::Sizes;
+use tables::{Grammar, Signing, Sizes, Table};
 
 // The judgement of grammar, table and signing: OK, or a refusal 1 to 4.
 #[unsafe(no_mangle)]
@@ -23,10 +22,24 @@ pub extern "C" fn slettrein_judge(
 ) -> Answer
     ensures { result ≡ answer_of (judgement (record { terminals = terminals; symbols = symbols; rules = rules }) states left.now lens.now rights.now table.now srule.now sgoto.now) }
 {
-    let z = Sizes {
-        terminals: terminals,
-        symbols: symbols,
-        rules: rules,
+    let sizes = Sizes {
+        terminals,
+        symbols,
+        rules,
     };
-    judged(judgement::judge::judge(z, states, left, lens, rights, table, srule, sgoto))
+    let grammar = Grammar {
+        sizes,
+        left,
+        lens,
+        rights,
+    };
+    let table = Table {
+        states,
+        entries: table,
+    };
+    let signing = Signing {
+        rules: srule,
+        targets: sgoto,
+    };
+    judgement::judge::judge(grammar, table, signing).into()
 }

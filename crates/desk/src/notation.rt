@@ -4,7 +4,6 @@ ghost use Rattle.house.specs.Handed.{handed_out};
 ghost use Rattle.desk.specs.House.{lent, lent_of};
 
 use answers::Answer;
-use answers::judged::judged;
 
 // Puts the house notation's grammar and table into the lent arrays: OK, or SIZE and nothing changed.
 #[unsafe(no_mangle)]
@@ -16,5 +15,5 @@ pub extern "C" fn slettrein_house(
 ) -> Answer
     ensures { lent result left.new lens.new rights.new table.new ≡ lent_of (handed_out left.old lens.old rights.old table.old) }
 {
-    judged(house::hand_out(left, lens, rights, table))
+    house::hand_out(left, lens, rights, table).into()
 }

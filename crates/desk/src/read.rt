@@ -1,10 +1,10 @@
-// A read asked for by itself, exported.
+// A read asked for by itself, exported. C lends numbers and slices, so they stand apart here.
 ghost use Rattle.std.specs.Prelude.{◌≡◌};
 ghost use Rattle.cells.specs.Asked.{read_said};
 ghost use Rattle.answers.specs.Answer.{answer_of};
 
 use answers::Answer;
-use answers::asked::asked;
+use cells::reading::Cells;
 use tables::Sizes;
 
 // The read of symbol a at the state at cell x: what it answers, or SIZE or BADCELL.
@@ -20,10 +20,11 @@ pub extern "C" fn slettrein_read(
 ) -> Answer
     ensures { result ≡ answer_of (read_said (record { terminals = terminals; symbols = symbols; rules = rules }) base.now check.now x a) }
 {
-    let z = Sizes {
-        terminals: terminals,
-        symbols: symbols,
-        rules: rules,
+    let sizes = Sizes {
+        terminals,
+        symbols,
+        rules,
     };
-    asked(cells::ask::read(z, base, check, x, a))
+    let cells = Cells { base, check };
+    cells::ask::read(sizes, cells, x, a).into()
 }

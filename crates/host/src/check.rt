@@ -1,11 +1,10 @@
-// The table check, exported.
+// The table check, exported. C lends numbers and slices, so they stand apart here.
 ghost use Rattle.std.specs.Prelude.{◌≡◌};
 ghost use Rattle.soundness.specs.Outcome as check;
 ghost use Rattle.answers.specs.Answer.{answer_of};
 
 use answers::Answer;
-use answers::checked::checked;
-use tables::Sizes;
+use tables::{Grammar, Signing, Sizes, Table};
 
 // Checks grammar, table and signing: OK, a refusal 1 to 4, or UNSOUND with state and rule.
 #[unsafe(no_mangle)]
@@ -23,10 +22,24 @@ pub extern "C" fn slettrein_check(
 ) -> Answer
     ensures { result ≡ answer_of (check.checked (record { terminals = terminals; symbols = symbols; rules = rules }) states left.now lens.now rights.now table.now srule.now sgoto.now) }
 {
-    let z = Sizes {
-        terminals: terminals,
-        symbols: symbols,
-        rules: rules,
+    let sizes = Sizes {
+        terminals,
+        symbols,
+        rules,
     };
-    checked(soundness::verdict::check(z, states, left, lens, rights, table, srule, sgoto))
+    let grammar = Grammar {
+        sizes,
+        left,
+        lens,
+        rights,
+    };
+    let table = Table {
+        states,
+        entries: table,
+    };
+    let signing = Signing {
+        rules: srule,
+        targets: sgoto,
+    };
+    soundness::verdict::check(grammar, table, signing).into()
 }

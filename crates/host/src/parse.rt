@@ -1,11 +1,11 @@
-// The parser over cells, exported.
+// The parser over cells, exported. C lends numbers and slices, so they stand apart here.
 ghost use Rattle.std.specs.Prelude.{◌≡◌};
 ghost use Rattle.parser.specs.Outcome.{packed_parse};
 ghost use Rattle.answers.specs.Ended.{ended, ended_of};
 
 use answers::ParseAnswer;
-use answers::parsed::parsed;
-use tables::Sizes;
+use cells::reading::Cells;
+use tables::{Grammar, Sizes};
 
 // Parses the tokens with the cells: OK, or a refusal 1, 2 or 7 to 14.
 #[unsafe(no_mangle)]
@@ -25,13 +25,17 @@ pub extern "C" fn slettrein_parse(
 ) -> ParseAnswer
     ensures { ended result stack.new list.new ≡ ended_of (packed_parse (record { terminals = terminals; symbols = symbols; rules = rules }) left.now lens.now rights.now base.now check.now tokens.now limit stack.old list.old) }
 {
-    let z = Sizes {
-        terminals: terminals,
-        symbols: symbols,
-        rules: rules,
+    let sizes = Sizes {
+        terminals,
+        symbols,
+        rules,
     };
-    let p = parser::parse::parse(
-        z, left, lens, rights, base, check, tokens, limit, stack, list,
-    );
-    parsed(p)
+    let grammar = Grammar {
+        sizes,
+        left,
+        lens,
+        rights,
+    };
+    let cells = Cells { base, check };
+    parser::parse::parse(grammar, cells, tokens, limit, stack, list).into()
 }

@@ -1,5 +1,5 @@
 -- What handing the house notation out into lent arrays says and leaves.
-use Rattle.std.specs.Prelude.{◌≡◌, Bool, cond, ◌&&◌, List, [], ℕ, eqb, ℤ, length}
+use Rattle.std.specs.Prelude.{Bool, cond, ◌&&◌, List, [], ℕ, eqb, ℤ, length}
 use Rattle.tables.specs.Said.{Said, OK, SIZE}
 use Rattle.house.specs.House.{house_left, house_lens, house_rights, house_table}
 
@@ -20,13 +20,6 @@ unfoldable pub arrays_fit : List ℕ → List ℕ → List ℕ → List ℤ → 
 arrays_fit left lens rights table =
     eqb (length left) (length house_left)
     && (eqb (length lens) (length house_lens) && (eqb (length rights) (length house_rights) && eqb (length table) (length house_table)))
-
--- the same, as numbers
-pub record Fit (left lens rights : List ℕ) (table : List ℤ) : Type 0 where
-  pub left-fits : length left ≡ 16
-  pub lens-fit : length lens ≡ 16
-  pub rights-fit : length rights ≡ 40
-  pub table_fits : length table ≡ 980
 
 -- the proved lists; or SIZE, and the arrays unchanged
 unfoldable pub handed_out : List ℕ → List ℕ → List ℕ → List ℤ → Handed

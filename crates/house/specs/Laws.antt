@@ -1,5 +1,4 @@
 pub mod Computed
-pub mod Copying
 pub mod Handed
 pub mod Meaning
 pub mod Stretch

@@ -1,9 +1,8 @@
 -- What is proved of the house notation. Each theorem is proved by one application; House has the arrays, Parse what they are asked, Notation what is allowed. Assumes nothing.
-use Rattle.std.specs.Prelude.{◌≡◌, ◌≢◌, true, false, List, [], ◌∷◌, ◌++◌, reverse, ℕ, take, replicate}
+use Rattle.std.specs.Prelude.{◌≡◌, ◌≢◌, true, false, List, [], ◌∷◌, ◌++◌, reverse, ℕ, take, replicate, Ok}
 use Rattle.tables.specs.Said.{OK, SYNTAX}
 use Rattle.tables.specs.Lists.{among}
 use Rattle.tables.specs.Laws.Tests.{clash}
-use Rattle.machine.specs.declared.Answer.TheVariants.{Accepted}
 use Rattle.machine.specs.Machine.{parse}
 use Rattle.machine.specs.Outcome.{leaves, job_fits, job}
 use Rattle.machine.specs.Reads.{plain_reads, unsigned_reads}
@@ -48,7 +47,7 @@ module _ (tokens : List ℕ) (limit : ℕ) (stack list : List ℕ) where
   derives n moves e = (soundness.derives house_sizes house_states house_left house_lens house_rights house_table no_rules no_targets house_checked_lem tokens limit stack list n moves e).1
 
   -- Nothing that the table accepts by itself is lost.
-  pub keeps : (n : ℕ) → job_fits tokens limit ≡ true → (parse house_grammar (unsigned_reads house_sizes house_table) (job tokens stack list) limit).answer ≡ Accepted n
+  pub keeps : (n : ℕ) → job_fits tokens limit ≡ true → (parse house_grammar (unsigned_reads house_sizes house_table) (job tokens stack list) limit).answer ≡ Ok n
       → house_parse tokens limit stack list ≡ leaves (parse house_grammar (unsigned_reads house_sizes house_table) (job tokens stack list) limit) stack list
   keeps = soundness.keeps house_sizes house_states house_left house_lens house_rights house_table no_rules no_targets house_checked_lem tokens limit stack list
 

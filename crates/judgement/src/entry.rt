@@ -4,7 +4,7 @@ ghost use Rattle.tables.specs.Size.{numbers_fit};
 ghost use Rattle.tables.specs.Entry.{good_action, good_goto, good_signed, lowest_entry};
 
 use number::Signed;
-use tables::{Lowest, Sizes};
+use tables::{Sizes, Table};
 
 // e may stand in a terminal column.
 fn action_good(z: Sizes, states: u32, a: u32, e: Signed) -> bool
@@ -12,7 +12,8 @@ fn action_good(z: Sizes, states: u32, a: u32, e: Signed) -> bool
 {
     match e {
         Signed::Plus(t) => t == 0 || (a != 0 && t < states),
-        Signed::Minus(r) => { if r == 1 { a == 0 } else { r <= z.rules } }
+        Signed::Minus(1) => a == 0,
+        Signed::Minus(r) => r <= z.rules,
     }
 }
 
@@ -27,6 +28,7 @@ fn goto_good(z: Sizes, states: u32, a: u32, e: Signed) -> bool
 }
 
 // e may stand in column a.
+#[tactic(auto, unfolding(tables::specs::Entry::good_signed))]
 fn entry_good(z: Sizes, states: u32, a: u32, e: Signed) -> bool
     ensures { result ≡ good_signed z states a e }
 {
@@ -38,21 +40,20 @@ fn entry_good(z: Sizes, states: u32, a: u32, e: Signed) -> bool
 }
 
 // The lowest bad index of the table, row by row.
-pub(crate) fn lowest_entry(z: Sizes, states: u32, table: &[i32]) -> Lowest
+pub(crate) fn lowest_entry(z: Sizes, table: Table) -> Option<usize>
     requires { numbers_fit z ≡ true }
-    ensures { result ≡ lowest_entry z states table.now }
+    ensures { result ≡ lowest_entry z table.entry.states table.entry.entries.now }
 {
-    let mut i: usize = 0;
+    // The column is counted beside the index: to find it from the index is a division for each entry.
     let mut a: u32 = 0;
-    while i < table.len() {
-        if !entry_good(z, states, a, number::at_i32(table, i)) {
-            return Lowest::At(i);
+    for (i, e) in table.entries.iter().enumerate() {
+        if !entry_good(z, table.states, a, number::sign(*e)) {
+            return Some(i);
         }
-        i += 1;
         a += 1;
         if a == z.symbols {
             a = 0;
         }
     }
-    Lowest::Nowhere
+    None
 }

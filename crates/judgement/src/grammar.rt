@@ -1,12 +1,13 @@
 // GRAMMAR: the lowest bad rule.
-ghost use Rattle.std.specs.Prelude.{◌≡◌, true};
+ghost use Rattle.std.specs.Prelude.{◌≡◌, true, ◌<◌, IfSome};
+ghost use Rattle.std.specs.List.{list_all};
 ghost use Rattle.tables.specs.Size.{grammar_fits};
-ghost use Rattle.tables.specs.Lists.{all};
 ghost use Rattle.tables.specs.Grammar.{inner, on_right, good_sides, lowest_rule};
 
-use tables::{Lowest, Sizes};
+use tables::{Grammar, Sizes};
 
 // x is a nonterminal other than the start symbol.
+#[tactic(auto, using(std::proofs::lemmas::Bool::Decides::nat_tests), unfolding(tables::specs::Grammar::inner))]
 fn is_inner(z: Sizes, x: u32) -> bool
     ensures { result ≡ inner z x }
 {
@@ -14,27 +15,22 @@ fn is_inner(z: Sizes, x: u32) -> bool
 }
 
 // x may stand on a right side.
+#[tactic(auto, using(std::proofs::lemmas::Bool::Decides::nat_tests), unfolding(tables::specs::Grammar::on_right))]
 fn may_be_right(z: Sizes, x: u32) -> bool
     ensures { result ≡ on_right z x }
 {
-    0 < x && (x < z.symbols && x != z.terminals)
+    0 < x && x < z.symbols && x != z.terminals
 }
 
 // Every symbol of a right side may stand there.
 fn right_good(z: Sizes, right: &[u32]) -> bool
-    ensures { result ≡ all (on_right z) right.now }
+    ensures { result ≡ list_all (on_right z) right.now }
 {
-    let mut i: usize = 0;
-    while i < right.len() {
-        if !may_be_right(z, right[i]) {
-            return false;
-        }
-        i += 1;
-    }
-    true
+    right.iter().all(|x| may_be_right(z, *x))
 }
 
-// The sides of a rule are good; `first` says that it is rule 1.
+// The sides of a rule are good; `first` says that it is rule 1, a test's answer as `good_sides` takes it.
+#[tactic(auto, using(tables::specs::Laws::Lists::all_is, std::proofs::lemmas::Bool::Decides::nat_tests), unfolding(tables::specs::Grammar::good_sides))]
 fn sides_good(z: Sizes, first: bool, left: u32, right: &[u32]) -> bool
     ensures { result ≡ good_sides z first left right.now }
 {
@@ -46,19 +42,24 @@ fn sides_good(z: Sizes, first: bool, left: u32, right: &[u32]) -> bool
 }
 
 // The lowest bad rule, counted from 0.
-pub(crate) fn lowest_rule(z: Sizes, left: &[u32], lens: &[u32], rights: &[u32]) -> Lowest
-    requires { grammar_fits z left.now lens.now rights.now ≡ true }
-    ensures { result ≡ lowest_rule z left.now lens.now rights.now }
+pub(crate) fn lowest_rule(grammar: Grammar) -> Option<usize>
+    requires { grammar_fits grammar.sizes grammar.left.now grammar.lens.now grammar.rights.now ≡ true }
+    ensures lowest { result ≡ lowest_rule grammar.entry.sizes grammar.entry.left.now grammar.entry.lens.now grammar.entry.rights.now }
+    ensures below { IfSome result (λ i. i < grammar.entry.sizes.rules) }
 {
-    let mut i: usize = 0;
-    let mut from: usize = 0;
-    while i < left.len() {
-        let to = from + lens[i] as usize;
-        if !sides_good(z, i == 0, left[i], &rights[from..to]) {
-            return Lowest::At(i);
+    // The right sides stand one after the other, so where the next one begins goes along; the table check's walk over rules keeps other facts than this one.
+    let mut from = 0;
+    for (i, n) in grammar.lens.iter().enumerate() {
+        let to = from + *n as usize;
+        if !sides_good(
+            grammar.sizes,
+            i == 0,
+            grammar.left[i],
+            &grammar.rights[from..to],
+        ) {
+            return Some(i);
         }
         from = to;
-        i += 1;
     }
-    Lowest::Nowhere
+    None
 }

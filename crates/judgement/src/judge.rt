@@ -7,69 +7,61 @@ use crate::entry::lowest_entry;
 use crate::grammar::lowest_rule;
 use crate::signing::{lowest_state, lowest_target};
 use tables::size::{all_fit, grammar_fits, signing_fits};
-use tables::{Judged, Lowest, Sizes};
+use tables::{Grammar, Refusal, Signing, Sizes, Table};
 
 // SIZE and GRAMMAR, for what has a grammar alone.
-pub fn judge_grammar(z: Sizes, left: &[u32], lens: &[u32], rights: &[u32]) -> Judged
-    ensures { said_of result ≡ grammar_judgement z left.now lens.now rights.now }
+#[tactic(auto, unfolding(tables::specs::Judgement::grammar_judgement))]
+pub fn judge_grammar(grammar: Grammar) -> Result<(), Refusal>
+    ensures { said_of result ≡ grammar_judgement grammar.entry.sizes grammar.entry.left.now grammar.entry.lens.now grammar.entry.rights.now }
 {
-    if grammar_fits(z, left, lens, rights) {
-        match lowest_rule(z, left, lens, rights) {
-            Lowest::At(i) => Judged::Grammar(i + 1),
-            Lowest::Nowhere => Judged::Good,
-        }
-    } else {
-        Judged::Size
+    if !grammar_fits(grammar) {
+        return Err(Refusal::Size);
+    }
+    match lowest_rule(grammar) {
+        Some(i) => Err(Refusal::Grammar(i + 1)),
+        None => Ok(()),
     }
 }
 
 // SIGN, the sizes being good.
-fn judge_signatures(z: Sizes, states: u32, srule: &[u32], sgoto: &[u32]) -> Judged
-    requires { signing_fits z states srule.now sgoto.now ≡ true }
-    ensures { said_of result ≡ sign_judgement z states srule.now sgoto.now }
+#[tactic(auto, using(tables::specs::Laws::Signing::lowest_state_is), unfolding(tables::specs::Judgement::sign_judgement))]
+fn judge_signatures(z: Sizes, states: u32, signing: Signing) -> Result<(), Refusal>
+    requires { signing_fits z states signing.rules.now signing.targets.now ≡ true }
+    ensures { said_of result ≡ sign_judgement z states signing.entry.rules.now signing.entry.targets.now }
 {
-    match lowest_state(z, srule) {
-        Lowest::At(s) => Judged::State(s),
-        Lowest::Nowhere => match lowest_target(states, sgoto) {
-            Lowest::At(i) => Judged::Nonterminal(z.terminals as usize + i),
-            Lowest::Nowhere => Judged::Good,
-        },
+    if let Some(s) = lowest_state(z, signing.rules) {
+        return Err(Refusal::State(s));
+    }
+    match lowest_target(states, signing.targets) {
+        Some(i) => Err(Refusal::Nonterminal(z.terminals as usize + i)),
+        None => Ok(()),
     }
 }
 
 // SIZE and SIGN, for what has a signing alone.
-pub fn judge_signing(z: Sizes, states: u32, srule: &[u32], sgoto: &[u32]) -> Judged
-    ensures { said_of result ≡ signing_judgement z states srule.now sgoto.now }
+#[tactic(auto, unfolding(tables::specs::Judgement::signing_judgement))]
+pub fn judge_signing(z: Sizes, states: u32, signing: Signing) -> Result<(), Refusal>
+    ensures { said_of result ≡ signing_judgement z states signing.entry.rules.now signing.entry.targets.now }
 {
-    if signing_fits(z, states, srule, sgoto) {
-        judge_signatures(z, states, srule, sgoto)
-    } else {
-        Judged::Size
+    if !signing_fits(z, states, signing) {
+        return Err(Refusal::Size);
     }
+    judge_signatures(z, states, signing)
 }
 
 // SIZE, GRAMMAR, ENTRY and SIGN, in this order.
-pub fn judge(
-    z: Sizes,
-    states: u32,
-    left: &[u32],
-    lens: &[u32],
-    rights: &[u32],
-    table: &[i32],
-    srule: &[u32],
-    sgoto: &[u32],
-) -> Judged
-    ensures { said_of result ≡ judgement z states left.now lens.now rights.now table.now srule.now sgoto.now }
+#[tactic(auto, unfolding(tables::specs::Judgement::judgement))]
+pub fn judge(grammar: Grammar, table: Table, signing: Signing) -> Result<(), Refusal>
+    ensures { said_of result ≡ judgement grammar.entry.sizes table.entry.states grammar.entry.left.now grammar.entry.lens.now grammar.entry.rights.now table.entry.entries.now signing.entry.rules.now signing.entry.targets.now }
 {
-    if all_fit(z, states, left, lens, rights, table, srule, sgoto) {
-        match lowest_rule(z, left, lens, rights) {
-            Lowest::At(i) => Judged::Grammar(i + 1),
-            Lowest::Nowhere => match lowest_entry(z, states, table) {
-                Lowest::At(i) => Judged::Entry(i),
-                Lowest::Nowhere => judge_signatures(z, states, srule, sgoto),
-            },
-        }
-    } else {
-        Judged::Size
+    if !all_fit(grammar, table, signing) {
+        return Err(Refusal::Size);
     }
+    if let Some(i) = lowest_rule(grammar) {
+        return Err(Refusal::Grammar(i + 1));
+    }
+    if let Some(i) = lowest_entry(grammar.sizes, table) {
+        return Err(Refusal::Entry(i));
+    }
+    judge_signatures(grammar.sizes, table.states, signing)
 }

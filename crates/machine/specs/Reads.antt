@@ -1,31 +1,11 @@
 -- A way of reading: what the machine asks of a table, and the table's two answers to it.
-use Rattle.std.specs.Prelude.{ℕ, List, ℤ}
+use Rattle.std.specs.Prelude.{◌≡◌, ℕ, ◌≤◌, List, ℤ, Option, Some, None}
+use Rattle.reads.specs.Reads.{Act, shift, reduce, accept, blank, Go, goes, nowhere, Reads}
 use Rattle.tables.specs.declared.Sizes.{Sizes}
 use Rattle.tables.specs.declared.Action.{Action}
 use Rattle.tables.specs.declared.Action.TheVariants as action
-use Rattle.tables.specs.declared.Goto.{Goto}
-use Rattle.tables.specs.declared.Goto.TheVariants as goto
 use Rattle.tables.specs.Entry.{action_at, goto_at}
 use Rattle.tables.specs.Filled.{filled_action_at, filled_goto_at}
-
--- what a read answers at a terminal
-pub data Act : Type 0 where
-  shift : ℕ → Act
-  reduce : ℕ → Act
-  accept : Act
-  blank : Act
-  malformed : Act
-
--- what a read answers at a nonterminal
-pub data Go : Type 0 where
-  goes : ℕ → Go
-  nowhere : Go
-  broken : Go
-
--- state and terminal; state and nonterminal
-pub record Reads : Type 0 where
-  pub act : ℕ → ℕ → Act
-  pub go : ℕ → ℕ → Go
 
 -- an entry of a terminal column; never malformed
 abbrev pub act_of : Action → Act
@@ -35,9 +15,13 @@ act_of (action.Reduce r) = reduce r
 act_of action.Accept = accept
 
 -- an entry of a nonterminal column; never malformed
-abbrev pub go_of : Goto → Go
-go_of goto.Blank = nowhere
-go_of (goto.To t) = goes t
+abbrev pub go_of : Option ℕ → Go
+go_of None = nowhere
+go_of (Some t) = goes t
+
+-- the filled table reduces by rules of the grammar alone
+abbrev pub Ruled : Sizes → List ℤ → List ℕ → Type 0
+Ruled z table srule = (s a r : ℕ) → filled_action_at z table srule s a ≡ action.Reduce r → r ≤ z.rules
 
 -- the plain machine's reads: the filled table
 unfoldable pub plain_reads : Sizes → List ℤ → List ℕ → List ℕ → Reads

@@ -1,4 +1,4 @@
-// The only crate that sees a signed machine number: taken apart, made again, read and stored; and the same for unsigned ones.
+// The only crate that sees a signed machine number: taken apart, made again, read and stored; and the same for elements of any type.
 #![tactic(auto)]
 
 mod words;
@@ -6,16 +6,16 @@ mod words;
 ghost use Rattle.std.specs.Prelude.{◌≡◌, pos, ◌<◌, set, get_or, length, replicate};
 ghost use Rattle.number.specs.Number.{sign_of, number_of, is_plus, plus_of};
 
-pub use words::{at_u32, clear_u32, put_u32};
+pub use words::{at, clear_u32, put};
 
 // A number taken apart: what it is, or what it is the negative of.
-#[derive(Clone, Copy)]
+#[derive(Clone, Copy, Debug, PartialEq, Eq)]
 pub enum Signed {
     Plus(u32),
     Minus(u32),
 }
 
-// A machine number taken apart by its sign.
+// A machine number taken apart by its sign. A word of its own beside `number`, which is total where a `TryFrom` would refuse.
 pub fn sign(v: i32) -> Signed
     ensures { result ≡ sign_of v }
 {
@@ -31,14 +31,9 @@ pub fn number(s: Signed) -> i32
     ensures { result ≡ number_of s }
 {
     match s {
-        Signed::Plus(n) => { if n <= 2147483647 { n as i32 } else { 0 } }
-        Signed::Minus(n) => {
-            if n <= 2147483648 {
-                (-(n as i64)) as i32
-            } else {
-                0
-            }
-        }
+        Signed::Plus(n) if n <= 2147483647 => n as i32,
+        Signed::Minus(n) if n <= 2147483648 => (-(n as i64)) as i32,
+        _ => 0,
     }
 }
 
@@ -46,31 +41,21 @@ pub fn number(s: Signed) -> i32
 pub fn at_i32(s: &[i32], i: usize) -> Signed
     ensures { result ≡ sign_of (get_or s.now i (pos 0)) }
 {
-    if i < s.len() {
-        sign(s[i])
-    } else {
-        Signed::Plus(0)
-    }
+    sign(at(s, i, 0))
 }
 
 // What stands at place i of s is n; 0 stands outside.
 pub fn holds_i32(s: &[i32], i: usize, n: u32) -> bool
     ensures { result ≡ is_plus (sign_of (get_or s.now i (pos 0))) n }
 {
-    if i < s.len() {
-        s[i] as i64 == n as i64
-    } else {
-        0 == n
-    }
+    at(s, i, 0) as i64 == n as i64
 }
 
 // Stores v at place `at` of s; outside, nothing changes.
 pub fn put_i32(s: &mut [i32], at: usize, v: Signed)
     ensures { s.new ≡ set s.old at (number_of v) }
 {
-    if at < s.len() {
-        s[at] = number(v);
-    }
+    put(s, at, number(v));
 }
 
 // v, or 0 where it is negative.
@@ -87,16 +72,12 @@ fn plus(v: i32) -> u32
 pub fn plus_at(s: &[i32], i: usize) -> u32
     ensures { (result ≡ plus_of (get_or s.now i (pos 0))) × (result < 2147483648) }
 {
-    if i < s.len() { plus(s[i]) } else { 0 }
+    plus(at(s, i, 0))
 }
 
 // Stores v at every place of s.
 pub fn fill_i32(s: &mut [i32], v: Signed)
     ensures { s.new ≡ replicate (length s.old) (number_of v) }
 {
-    let mut i: usize = 0;
-    while i < s.len() {
-        put_i32(s, i, v);
-        i += 1;
-    }
+    s.fill(number(v));
 }

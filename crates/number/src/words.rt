@@ -1,16 +1,16 @@
-// Reads and stores of unsigned numbers on lent slices.
+// Reads and stores of elements of lent slices, whatever their type; and unsigned numbers cleared.
 ghost use Rattle.std.specs.Prelude.{◌≡◌, set, get_or};
 ghost use Rattle.number.specs.Words.{clear_of};
 
-// What stands at place i of s; 0 outside.
-pub fn at_u32(s: &[u32], i: usize) -> u32
-    ensures { result ≡ get_or s.now i 0 }
+// What stands at place i of s; `none` outside.
+pub fn at<T: Copy>(s: &[T], i: usize, none: T) -> T
+    ensures { result ≡ get_or s.now i none }
 {
-    if i < s.len() { s[i] } else { 0 }
+    if i < s.len() { s[i] } else { none }
 }
 
 // Stores v at place `at` of s; outside, nothing changes.
-pub fn put_u32(s: &mut [u32], at: usize, v: u32)
+pub fn put<T: Copy>(s: &mut [T], at: usize, v: T)
     ensures { s.new ≡ set s.old at v }
 {
     if at < s.len() {
@@ -19,12 +19,11 @@ pub fn put_u32(s: &mut [u32], at: usize, v: u32)
 }
 
 // Stores 0 at place `from` of s and at every place after it.
+#[tactic(auto, unfolding(crate::specs::Words::clear_of))]
 pub fn clear_u32(s: &mut [u32], from: usize)
     ensures { s.new ≡ clear_of s.old from }
 {
-    let mut i = from;
-    while i < s.len() {
-        s[i] = 0;
-        i += 1;
+    if from < s.len() {
+        s[from..].fill(0);
     }
 }

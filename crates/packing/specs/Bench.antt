@@ -39,6 +39,11 @@ abbrev pub fill_b : Job → Kind → ℕ → ℕ → ℕ → Bench → Bench
 fill_b J κ s b zero B = B
 fill_b J κ s b (suc a) B = write_b J a (b + 2 * a) (row J κ s a) (fill_b J κ s b a B)
 
+-- the cell that holds the base of s of one kind: its own, or its attached cell
+abbrev pub cell_of : Kind → List ℕ → ℕ → ℕ
+cell_of action places s = get_or places s 0
+cell_of goto places s = suc (get_or places s 0)
+
 -- the base of the row of s: at the state's cell, or at its attached cell
 abbrev pub base_b : Kind → ℕ → ℕ → Bench → Bench
 base_b action s b B = record { bases = set B.bases (get_or B.places s 0) (pos b); checks = B.checks; marks = B.marks; places = B.places }

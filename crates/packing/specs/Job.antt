@@ -2,12 +2,9 @@
 use Rattle.std.specs.Prelude.{ℕ, zero, suc, ◌-◌, Bool, true, false, List, eqb, ℤ, pos, negsuc, neg_ℤ, get_or}
 use Rattle.tables.specs.declared.Sizes.{Sizes}
 use Rattle.tables.specs.Entry.{entry_at}
-
--- an entry of either kind of column; rule 1 is accept
-pub data Act : Type 0 where
-  blank : Act
-  shift : ℕ → Act
-  rule : ℕ → Act
+-- an entry of either kind of column, the code's own type; rule 1 is accept
+pub use Rattle.packing.specs.declared.Written.{Written as Act}
+pub use Rattle.packing.specs.declared.Written.TheVariants.{Blank as blank, Shift as shift, Rule as rule}
 
 -- T, M, G and L; the entry of each state and symbol; the signed rule of each state and the signed state of each nonterminal; the cell of each nonterminal's default target
 pub record Job : Type 0 where

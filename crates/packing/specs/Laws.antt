@@ -26,7 +26,7 @@ pub mod Answers
 pub mod Judged
 pub mod SmallBoard
 pub mod Written
-pub mod Gather
+pub mod Compared
 pub mod Search
 pub mod Store
 pub mod Ready

@@ -1,4 +1,5 @@
 pub mod Job
+pub mod Bounds
 pub mod Rows
 pub mod Board
 pub mod Bench
@@ -10,4 +11,6 @@ pub mod Laws
 pub mod Theorems
 pub mod Written
 pub mod Turns
+pub mod Gathered
+pub mod Lent
 pub mod Packing

@@ -1,23 +1,28 @@
 -- Packing as a whole: what is said, and what the four arrays hold then.
-use Rattle.std.specs.Prelude.{ℕ, zero, suc, Bool, cond, ◌&&◌, List, [], ◌∷◌, eqb, ℤ, length, get_or}
+use Rattle.std.specs.Prelude.{Ok, Err, ℕ, zero, suc, Bool, cond, ◌&&◌, List, [], ◌∷◌, eqb, ℤ, length, get_or}
+use Rattle.std.specs.Prelude.{Result as Outcome}
 use Rattle.std.proofs.Math.Option.{Option, none, some}
 use Rattle.tables.specs.declared.Sizes.{Sizes}
 use Rattle.tables.specs.Said.{Said, OK, SIZE, NOROOM}
-use Rattle.tables.specs.Judgement.{judgement, said_of as judged_said}
+use Rattle.tables.specs.Judgement.{judgement, refused as judged_refused}
 use Rattle.cells.specs.Read.{twice}
 use Rattle.cells.specs.Size.{cells_fit}
-use Rattle.packing.specs.declared.Packing.{Packing}
-use Rattle.packing.specs.declared.Packing.TheVariants.{Packed, Refused, NoRoom}
+use Rattle.packing.specs.declared.PackRefusal.{PackRefusal}
+use Rattle.packing.specs.declared.PackRefusal.TheVariants.{Judged, NoRoom}
 use Rattle.packing.specs.Packed.{bound}
 use Rattle.packing.specs.Bench.{Bench, placement_b}
 use Rattle.packing.specs.Job.{job_of}
 use Rattle.packing.specs.Turns.{wiped}
 
--- the number and the values of each case
-abbrev pub said_of : Packing → Said
-said_of (Packed n) = OK (n ∷ [])
-said_of (Refused j) = judged_said j
-said_of NoRoom = NOROOM
+-- the number and the values of each refusal
+abbrev pub refused : PackRefusal → Said
+refused (Judged r) = judged_refused r
+refused NoRoom = NOROOM
+
+-- the count, or the refusal
+abbrev pub said_of : Outcome ℕ PackRefusal → Said
+said_of (Ok n) = OK (n ∷ [])
+said_of (Err e) = refused e
 
 -- what is said, with the arrays
 pub record Result : Type 0 where

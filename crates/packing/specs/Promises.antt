@@ -1,32 +1,30 @@
 -- What is promised of packed cells, with the filled table and the place list beside them.
-use Rattle.std.specs.Prelude.{◌≡◌, ℕ, suc, ◌-◌, ◌≤◌, ◌<◌, List, length, get_or}
+use Rattle.std.specs.Prelude.{◌≡◌, Option, Some, None, ℕ, suc, ◌-◌, ◌≤◌, ◌<◌, List, length, get_or}
 use Rattle.std.proofs.Math.Option.{none, some}
 use Rattle.tables.specs.declared.Action.{Action}
 use Rattle.tables.specs.declared.Action.TheVariants as action
-use Rattle.tables.specs.declared.Goto.{Goto}
-use Rattle.tables.specs.declared.Goto.TheVariants as goto
-use Rattle.cells.specs.declared.Way.{Way}
-use Rattle.cells.specs.declared.Read.{Read}
-use Rattle.cells.specs.declared.Read.TheVariants.{Shift, Reduce, Accept, Blank}
-use Rattle.cells.specs.Parts.{way_cell}
+use Rattle.reads.specs.declared.Way.{Way}
+use Rattle.reads.specs.declared.Read.{Read}
+use Rattle.reads.specs.declared.Read.TheVariants.{Shift, Reduce, Accept, Blank}
+use Rattle.reads.specs.Read.{way_cell}
 use Rattle.packing.specs.Job.{Job}
 use Rattle.packing.specs.Packed.{Packed, bound, pack}
 
 -- the read is a shift to the state at cell y, directly or through a pointer
-abbrev pub ShiftsTo : Read → ℕ → Type 0
-ShiftsTo r y = (w : Way) × (way_cell w ≡ y) × (r ≡ Shift w)
+abbrev pub ShiftsTo : Option Read → ℕ → Type 0
+ShiftsTo r y = (w : Way) × (way_cell w ≡ y) × (r ≡ Some (Shift w))
 
 -- the read says what the filled table says of a terminal, with a shift's state carried to its cell by the place list
-abbrev pub Carries : List ℕ → Read → Action → Type 0
-Carries places r action.Blank = r ≡ Blank
+abbrev pub Carries : List ℕ → Option Read → Action → Type 0
+Carries places r action.Blank = r ≡ Some Blank
 Carries places r (action.Shift t) = ShiftsTo r (get_or places t 0)
-Carries places r (action.Reduce q) = r ≡ Reduce q
-Carries places r action.Accept = r ≡ Accept
+Carries places r (action.Reduce q) = r ≡ Some (Reduce q)
+Carries places r action.Accept = r ≡ Some Accept
 
 -- likewise of a nonterminal
-abbrev pub CarriesGoto : List ℕ → Read → Goto → Type 0
-CarriesGoto places r goto.Blank = r ≡ Blank
-CarriesGoto places r (goto.To t) = ShiftsTo r (get_or places t 0)
+abbrev pub CarriesGoto : List ℕ → Option Read → Option ℕ → Type 0
+CarriesGoto places r None = r ≡ Some Blank
+CarriesGoto places r (Some t) = ShiftsTo r (get_or places t 0)
 
 -- n is the highest taken cell plus 1: cell n - 1 is taken, and none from n on
 pub record IsCount (marks : List ℕ) (n : ℕ) : Type 0 where

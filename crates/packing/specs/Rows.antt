@@ -2,6 +2,9 @@
 use Rattle.std.specs.Prelude.{ℕ, zero, suc, Bool, true, false, cond, ◌&&◌, ltb, eqb}
 use Rattle.cells.specs.Read.{Kind, action, goto}
 use Rattle.packing.specs.Job.{Act, blank, shift, rule, Job, eq_act, is_blank}
+-- a row is placed, it takes an earlier state's base, or nothing is done: the code's own type
+pub use Rattle.packing.specs.declared.Plan.{Plan}
+pub use Rattle.packing.specs.declared.Plan.TheVariants.{Search as search, Share as share, Skip as skip}
 
 -- the entry that a signature stands for: 0 signs nothing
 abbrev pub rule_sign : ℕ → Act
@@ -28,9 +31,13 @@ in_kind action false e = blank
 in_kind goto true e = blank
 in_kind goto false e = e
 
+-- the entry e, blank where it is what is signed
+abbrev pub unless : Act → Act → Act
+unless e signed = cond (eq_act e signed) blank e
+
 -- the written row of state s, column by column; blank is 'not written'
 unfoldable pub row : Job → Kind → ℕ → ℕ → Act
-row J κ s a = in_kind κ (kind_of J a) (cond (eq_act (J.entry s a) (sign J κ s a)) blank (J.entry s a))
+row J κ s a = in_kind κ (kind_of J a) (unless (J.entry s a) (sign J κ s a))
 
 -- ---- rows that are the same
 
@@ -60,12 +67,6 @@ rep J goto s = s
 abbrev pub empty_upto : (ℕ → Act) → ℕ → Bool
 empty_upto f zero = true
 empty_upto f (suc n) = empty_upto f n && is_blank (f n)
-
--- it is placed, it takes an earlier state's base, or nothing is done
-pub data Plan : Type 0 where
-  search : Plan
-  share : ℕ → Plan
-  skip : Plan
 
 -- an action row is shared if it can be; an empty goto row has goto base 0
 unfoldable pub plan : Job → Kind → ℕ → Plan

@@ -1,87 +1,56 @@
 // The cells that a row needs, gathered once before its base is searched.
-ghost use Rattle.std.specs.Prelude.{◌≡◌, ◌≤◌, length};
-ghost use Rattle.tables.specs.Laws.Size.{NumbersFit};
-ghost use Rattle.packing.specs.Bench.{seen};
-ghost use Rattle.packing.specs.Written.{row_of, homeless_in, needed_by, Gathered};
+ghost use Rattle.std.specs.Prelude.{◌≤◌, ◌<◌, ◌+◌, ◌≡◌, length};
+ghost use Rattle.packing.specs.Bench.{seen, no_cell_b};
+ghost use Rattle.packing.specs.Gathered.{Needed, Gathered};
+ghost use Rattle.packing.specs.Lent.{cells, row_of};
 
 use crate::Written;
-use crate::row::{shifts_to, written};
-use tables::Sizes;
+use crate::bench::Bench;
+use crate::row::Row;
+use arrayvec::ArrayVec;
 
-// Some column below n of the row shifts to t.
-fn seen_below(
-    z: Sizes,
-    table: &[i32],
-    sgoto: &[u32],
-    rule: u32,
-    s: u32,
-    goto: bool,
-    t: u32,
-    n: u32,
-) -> bool
-    ensures { result ≡ seen (row_of z table.now sgoto.now rule s goto) t n }
-{
-    let mut a = n;
-    while 0 < a {
-        a -= 1;
-        if shifts_to(written(z, table, sgoto, rule, s, goto, a), t) {
-            return true;
+impl<'a> Row<'a> {
+    // Some column below n of the row shifts to t.
+    fn seen_below(self, t: u32, n: u32) -> bool
+        ensures { result ≡ seen (row_of self.entry) t n }
+    {
+        for a in 0..n {
+            if self.at(a) == Written::Shift(t) {
+                return true;
+            }
         }
+        false
     }
-    false
 }
 
-// How many cells the entry of column a needs: its own, and one more if it gives a state its cell.
-fn needed(
-    z: Sizes,
-    table: &[i32],
-    sgoto: &[u32],
-    place: &[u32],
-    rule: u32,
-    s: u32,
-    goto: bool,
-    a: u32,
-) -> usize
-    ensures { (result ≡ needed_by (homeless_in place.now) (row_of z table.now sgoto.now rule s goto) a (row_of z table.now sgoto.now rule s goto a)) × (result ≤ 2) }
-{
-    match written(z, table, sgoto, rule, s, goto, a) {
-        Written::Blank => 0,
-        Written::Rule(_) => 1,
-        Written::Shift(t) => {
-            if number::at_u32(place, t as usize) == 0 {
-                if seen_below(z, table, sgoto, rule, s, goto, t, a) {
-                    1
-                } else {
-                    2
+impl<'a> Bench<'a> {
+    // Adds the cells that the entry of column a needs: its own, and one more if it gives a state its cell.
+    fn need_column(&self, row: Row, a: u32, need: &mut ArrayVec<u32, 1024>)
+        requires column { a < 512 }
+        requires room { length need.old.items + 2 ≤ 1024 }
+        ensures cells { Needed (no_cell_b (cells self.now)) (row_of row.entry) a need.old.items need.new.items }
+        ensures few { length need.new.items ≤ length need.old.items + 2 }
+    {
+        match row.at(a) {
+            Written::Blank => {}
+            Written::Rule(_) => need.push(2 * a),
+            Written::Shift(t) => {
+                need.push(2 * a);
+                if self.place_of(t) == 0 && !row.seen_below(t, a) {
+                    need.push(2 * a + 1);
                 }
-            } else {
-                1
             }
         }
     }
-}
 
-// Gathers the cells that a row needs, counted from its base; how many there are.
-pub(crate) fn gather(
-    z: Sizes,
-    table: &[i32],
-    sgoto: &[u32],
-    place: &[u32],
-    rule: u32,
-    s: u32,
-    goto: bool,
-    need: &mut [u32],
-) -> usize
-    requires { NumbersFit z × (length need.old ≡ 1024) }
-    ensures { Gathered (homeless_in place.now) (row_of z table.now sgoto.now rule s goto) z.symbols need.new result × (result ≤ 1024) }
-{
-    let mut n: usize = 0;
-    let mut a: u32 = 0;
-    while a < z.symbols {
-        need[n] = 2 * a;
-        need[n + 1] = 2 * a + 1;
-        n += needed(z, table, sgoto, place, rule, s, goto, a);
-        a += 1;
+    // The cells that a row needs, counted from its base.
+    pub(crate) fn needs(&self, row: Row) -> ArrayVec<u32, 1024>
+        ensures { Gathered (no_cell_b (cells self.now)) (row_of row.entry) row.entry.job.sizes.symbols result.items }
+    {
+        let mut need = ArrayVec::new();
+        for a in 0..row.job.sizes.symbols {
+            self.need_column(row, a, &mut need);
+        }
+        need
     }
-    n
 }

@@ -1,45 +1,58 @@
 // Packing: every state and every written row gets its place in the cells, in document 01's order.
 #![tactic(auto)]
 
+mod bench;
 mod gather;
+mod job;
 pub mod pack;
 mod place;
 mod row;
 mod search;
-mod store;
 mod turn;
 
-use tables::Judged;
+ghost use Rattle.std.specs.Prelude.{◌≡◌};
+ghost use Rattle.packing.specs.declared.PackRefusal.TheVariants.{Judged};
+
+use tables::Refusal;
+
+// The two kinds of rows. The definitions have theirs from `cells`, of which the theorems on reads speak; `as_kind` joins the two.
+#[derive(Clone, Copy, Debug, PartialEq, Eq)]
+pub enum Kind {
+    Action,
+    Goto,
+}
 
 // A written entry; a blank one stands where the row has none.
-#[derive(Clone, Copy)]
+#[derive(Clone, Copy, Debug, PartialEq, Eq)]
 pub enum Written {
     Blank,
     Shift(u32),
     Rule(u32),
 }
 
-// What is stored for a written entry: nothing, a state with its two cells, or the negative of a number in Base.
-#[derive(Clone, Copy)]
-pub enum Stored {
-    Nothing,
-    State(u32),
-    Minus(u32),
+// What is done with a row: it is placed, it takes the base of an earlier state, or nothing is done.
+#[derive(Clone, Copy, Debug, PartialEq, Eq)]
+pub enum Plan {
+    Search,
+    Share(u32),
+    Skip,
 }
 
-// The base of a row: none where it needs none, that of a state with the same row, one of its own, or none for want of room.
-#[derive(Clone, Copy)]
-pub enum RowBase {
-    Empty,
-    Shared(u32),
-    Own(u32),
+// The cells do not hold what is to be placed.
+#[derive(Clone, Copy, Debug, PartialEq, Eq)]
+pub struct NoRoom;
+
+// Why nothing is packed: what the judgement refuses, or that there is no room.
+#[derive(Clone, Copy, Debug, PartialEq, Eq)]
+pub enum PackRefusal {
+    Judged(Refusal),
     NoRoom,
 }
 
-// What packing says: the count of cells, what the judgement refuses, or that there is no room.
-#[derive(Clone, Copy)]
-pub enum Packing {
-    Packed(usize),
-    Refused(Judged),
-    NoRoom,
+impl From<Refusal> for PackRefusal {
+    ghost from_gives = { λ r e. e ≡ Judged r };
+
+    fn from(r: Refusal) -> PackRefusal {
+        PackRefusal::Judged(r)
+    }
 }

@@ -1,104 +1,87 @@
 // Packing: SIZE, GRAMMAR, ENTRY and SIGN, then placement, NOROOM or the count.
-ghost use Rattle.std.specs.Prelude.{◌≡◌, ◌&&◌, true, false, eqb, length};
-ghost use Rattle.tables.specs.Judgement.{said_of as judged_said};
-ghost use Rattle.cells.specs.Read.{twice};
-ghost use Rattle.packing.specs.Packed.{bound};
+ghost use Rattle.std.specs.Prelude.{◌≡◌, length};
 ghost use Rattle.packing.specs.Bench.{placement_b};
-ghost use Rattle.packing.specs.Job.{job_of};
 ghost use Rattle.packing.specs.Written.{bench};
-ghost use Rattle.packing.specs.Turns.{Sized, Ready};
+ghost use Rattle.packing.specs.Lent.{asked};
+ghost use Rattle.packing.specs.Turns.{Sized};
 ghost use Rattle.packing.specs.Packing.{said_of, packing_result, arrays_fit, count_of, placed_by, packed};
 
-use crate::Packing;
+use crate::PackRefusal;
+use crate::job::Job;
 use crate::place::{place_all, wipe};
 use cells::size::cells_fit;
 use judgement::judge::judge;
-use tables::{Judged, Sizes};
+use tables::{Grammar, Refusal, Signing, Table};
 
 // The highest taken cell plus 1.
+#[tactic(auto, unfolding(crate::specs::Packing::count_of))]
 fn count(marks: &[u32]) -> usize
     ensures { result ≡ count_of marks.now }
 {
-    let mut n = marks.len();
-    while 0 < n {
-        if marks[n - 1] != 0 {
-            return n;
+    let mut n = 0;
+    for (c, mark) in marks.iter().enumerate() {
+        if *mark != 0 {
+            n = c + 1;
         }
-        n -= 1;
     }
-    0
+    n
 }
 
-// The four arrays have W, W, W and L elements, and W is within its bounds.
+// The four arrays have W, W, W and L elements, and W is within its bounds. They are not yet a bench, as for `place_all`.
+#[tactic(auto, using(std::proofs::lemmas::Bool::Decides::nat_tests), unfolding(crate::specs::Packing::arrays_fit))]
 fn arrays_fit(states: u32, base: &[i32], check: &[i32], marks: &[u32], place: &[u32]) -> bool
     ensures { result ≡ arrays_fit states (bench base.now check.now marks.now place.now) }
 {
-    cells_fit(base, check) && (marks.len() == base.len() && place.len() == states as usize)
+    cells_fit(base, check) && marks.len() == base.len() && place.len() == states as usize
 }
 
-// The judgement refuses nothing.
-fn is_good(j: Judged) -> bool
-    ensures { result ≡ eqb (judged_said j).number 0 }
-{
-    match j {
-        Judged::Good => true,
-        Judged::Size => false,
-        Judged::Grammar(_) => false,
-        Judged::Entry(_) => false,
-        Judged::State(_) => false,
-        Judged::Nonterminal(_) => false,
-    }
-}
-
-// Places a table and a signing that have been judged; without room all four arrays are 0.
+// Places a table and a signing that have been judged; without room all four arrays are 0. They are not a bench here, as for `place_all`.
 fn pack_judged(
-    z: Sizes,
-    states: u32,
-    table: &[i32],
-    srule: &[u32],
-    sgoto: &[u32],
+    job: Job,
     base: &mut [i32],
     check: &mut [i32],
     marks: &mut [u32],
     place: &mut [u32],
-) -> Packing
-    requires { Ready z states table.now srule.now sgoto.now × Sized states (bench base.old check.old marks.old place.old) }
-    ensures { packing_result (said_of result) (bench base.new check.new marks.new place.new) ≡ placed_by (placement_b (job_of twice z states table.now srule.now sgoto.now) (length base.old) (bound (job_of twice z states table.now srule.now sgoto.now))) (bench base.old check.old marks.old place.old) }
+) -> Result<usize, PackRefusal>
+    requires cells { job.cells ≡ length base.old }
+    requires sized { Sized job.table.states (bench base.old check.old marks.old place.old) }
+    ensures { packing_result (said_of result) (bench base.new check.new marks.new place.new) ≡ placed_by (placement_b (asked job.entry) job.entry.cells job.entry.tries) (bench base.old check.old marks.old place.old) }
 {
-    wipe(base, check, marks, place, z.symbols);
-    if place_all(z, states, table, srule, sgoto, base, check, marks, place) {
-        Packing::Packed(count(marks))
-    } else {
-        wipe(base, check, marks, place, 0);
-        Packing::NoRoom
+    wipe(base, check, marks, place, job.sizes.symbols);
+    match place_all(job, base, check, marks, place) {
+        Ok(()) => Ok(count(marks)),
+        Err(_) => {
+            wipe(base, check, marks, place, 0);
+            Err(PackRefusal::NoRoom)
+        }
     }
 }
 
 // Packs grammar, table and signing into the lent cells.
 pub fn pack(
-    z: Sizes,
-    states: u32,
-    left: &[u32],
-    lens: &[u32],
-    rights: &[u32],
-    table: &[i32],
-    srule: &[u32],
-    sgoto: &[u32],
+    grammar: Grammar,
+    table: Table,
+    signing: Signing,
     base: &mut [i32],
     check: &mut [i32],
     marks: &mut [u32],
     place: &mut [u32],
-) -> Packing
-    ensures { packing_result (said_of result) (bench base.new check.new marks.new place.new) ≡ packed z states left.now lens.now rights.now table.now srule.now sgoto.now (bench base.old check.old marks.old place.old) }
+) -> Result<usize, PackRefusal>
+    ensures { packing_result (said_of result) (bench base.new check.new marks.new place.new) ≡ packed grammar.entry.sizes table.entry.states grammar.entry.left.now grammar.entry.lens.now grammar.entry.rights.now table.entry.entries.now signing.entry.rules.now signing.entry.targets.now (bench base.old check.old marks.old place.old) }
 {
-    if arrays_fit(states, base, check, marks, place) {
-        let j = judge(z, states, left, lens, rights, table, srule, sgoto);
-        if is_good(j) {
-            pack_judged(z, states, table, srule, sgoto, base, check, marks, place)
-        } else {
-            Packing::Refused(j)
-        }
-    } else {
-        Packing::Refused(Judged::Size)
+    if !arrays_fit(table.states, base, check, marks, place) {
+        return Err(PackRefusal::Judged(Refusal::Size));
     }
+    judge(grammar, table, signing)?;
+    let sizes = grammar.sizes;
+    let m = sizes.symbols as usize;
+    let tries = 2 * m + table.states as usize * (4 * m + 4);
+    let job = Job {
+        sizes,
+        table,
+        signing,
+        cells: base.len(),
+        tries,
+    };
+    pack_judged(job, base, check, marks, place)
 }

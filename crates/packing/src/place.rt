@@ -1,51 +1,68 @@
 // The order of placement: state 0, the signed targets, then the turn of each state.
-ghost use Rattle.std.specs.Prelude.{◌≡◌, true, false, ◌-◌, ◌≤◌, length};
-ghost use Rattle.cells.specs.Read.{twice};
-ghost use Rattle.packing.specs.Packed.{bound};
-ghost use Rattle.packing.specs.Bench.{blank_b, placement_b};
-ghost use Rattle.packing.specs.Job.{job_of};
-ghost use Rattle.packing.specs.Written.{bench, kept, Low, Tame};
-ghost use Rattle.packing.specs.Turns.{FixedTurn, wiped, Ready};
+ghost use Rattle.std.specs.Prelude.{◌≡◌, ◌+◌, ◌-◌, ◌≤◌};
+ghost use Rattle.packing.specs.Bench.{blank_b, target_b, targets_b, states_b, placement_b};
+ghost use Rattle.packing.specs.Lent.{asked, cells, kept, SameLenders};
+ghost use Rattle.packing.specs.Written.{bench};
+ghost use Rattle.packing.specs.Turns.{wiped};
 
-use crate::store::house;
-use crate::turn::state;
+use crate::NoRoom;
+use crate::bench::Bench;
+use crate::job::Job;
 use number::Signed;
-use tables::Sizes;
 
-// The cells that are fixed: state 0 stands at 0, the signed target of nonterminal x at 2x.
-fn fixed(
-    z: Sizes,
-    srule: &[u32],
-    sgoto: &[u32],
-    check: &mut [i32],
-    marks: &mut [u32],
-    place: &mut [u32],
-    w: usize,
-) -> bool
-    requires { Tame z srule.now × Low place.old }
-    ensures { FixedTurn z srule.now sgoto.now w (z.symbols - z.terminals) check.old marks.old place.old result check.new marks.new place.new × Low place.new }
-{
-    if !house(z, srule, check, marks, place, w, 0, 0, z.symbols) {
-        return false;
-    }
-    let n = z.symbols - z.terminals;
-    let mut i: u32 = 0;
-    while i < n {
-        let t = number::at_u32(sgoto, i as usize);
+impl<'a> Bench<'a> {
+    // The signed target of nonterminal T + i stands at 2(T + i), where there is one.
+    #[tactic(auto, unfolding(crate::specs::Job::job_of))]
+    fn target(&mut self, job: Job, i: u32) -> Result<(), NoRoom>
+        requires { job.sizes.terminals + i ≤ 512 }
+        ensures cells { kept result (cells self.new) ≡ target_b (asked job.entry) job.entry.cells ((asked job.entry).terms + i) ((asked job.entry).gsig ((asked job.entry).terms + i)) (cells self.old) }
+        ensures lent { SameLenders self.old self.new }
+    {
+        let t = number::at(job.signing.targets, i as usize, 0);
         if t == 0 {
-            i += 1;
-            continue;
+            return Ok(());
         }
-        let x = z.terminals + i;
-        if !house(z, srule, check, marks, place, w, t, 2 * x as usize, x) {
-            return false;
-        }
-        i += 1;
+        let x = job.sizes.terminals + i;
+        self.house(job, t, 2 * x as usize, x)
     }
-    true
+
+    // The signed targets stand at their cells.
+    #[tactic(auto, unfolding(crate::specs::Job::job_of))]
+    fn targets(&mut self, job: Job) -> Result<(), NoRoom>
+        ensures cells { kept result (cells self.new) ≡ targets_b (asked job.entry) job.entry.cells ((asked job.entry).syms - (asked job.entry).terms) (cells self.old) }
+        ensures lent { SameLenders self.old self.new }
+    {
+        for i in 0..job.sizes.symbols - job.sizes.terminals {
+            self.target(job, i)?;
+        }
+        Ok(())
+    }
+
+    // Each state has its turn.
+    #[tactic(auto, unfolding(crate::specs::Job::job_of))]
+    fn states(&mut self, job: Job) -> Result<(), NoRoom>
+        ensures cells { kept result (cells self.new) ≡ states_b (asked job.entry) job.entry.cells job.entry.tries (asked job.entry).states (cells self.old) }
+        ensures lent { SameLenders self.old self.new }
+    {
+        for s in 0..job.table.states {
+            self.state(job, s)?;
+        }
+        Ok(())
+    }
+
+    // All of placement on arrays whose cells are free.
+    fn place(&mut self, job: Job) -> Result<(), NoRoom>
+        requires { cells self.old ≡ blank_b (asked job) job.cells }
+        ensures cells { kept result (cells self.new) ≡ placement_b (asked job.entry) job.entry.cells job.entry.tries }
+        ensures lent { SameLenders self.old self.new }
+    {
+        self.house(job, 0, 0, job.sizes.symbols)?;
+        self.targets(job)?;
+        self.states(job)
+    }
 }
 
-// Every cell free: Base 0, Check `empty`, marks and places 0.
+// Every cell free: Base 0, Check `empty`, marks and places 0. The arrays are not yet a bench, as for `place_all`.
 pub(crate) fn wipe(
     base: &mut [i32],
     check: &mut [i32],
@@ -62,35 +79,23 @@ pub(crate) fn wipe(
     number::clear_u32(place, 0);
 }
 
-// All of placement on arrays whose cells are free: the fixed cells, then the turn of each state.
+// Placement on lent arrays whose cells are free. They come one by one, as they are lent: a bench wants its places wiped first,
+// and says nothing of the lengths, which lent slices keep.
 pub(crate) fn place_all(
-    z: Sizes,
-    states: u32,
-    table: &[i32],
-    srule: &[u32],
-    sgoto: &[u32],
+    job: Job,
     base: &mut [i32],
     check: &mut [i32],
     marks: &mut [u32],
     place: &mut [u32],
-) -> bool
-    requires { Ready z states table.now srule.now sgoto.now × (bench base.old check.old marks.old place.old ≡ blank_b (job_of twice z states table.now srule.now sgoto.now) (length base.old)) }
-    ensures { kept result (bench base.new check.new marks.new place.new) ≡ placement_b (job_of twice z states table.now srule.now sgoto.now) (length base.old) (bound (job_of twice z states table.now srule.now sgoto.now)) }
+) -> Result<(), NoRoom>
+    requires { bench base.old check.old marks.old place.old ≡ blank_b (asked job) job.cells }
+    ensures { kept result (bench base.new check.new marks.new place.new) ≡ placement_b (asked job.entry) job.entry.cells job.entry.tries }
 {
-    let w = base.len();
-    if !fixed(z, srule, sgoto, check, marks, place, w) {
-        return false;
-    }
-    let m = z.symbols as usize;
-    let fuel = 2 * m + states as usize * (4 * m + 4);
-    let mut s: u32 = 0;
-    while s < states {
-        if !state(
-            z, table, srule, sgoto, base, check, marks, place, s, w, fuel,
-        ) {
-            return false;
-        }
-        s += 1;
-    }
-    true
+    let mut bench = Bench {
+        base,
+        check,
+        marks,
+        place,
+    };
+    bench.place(job)
 }

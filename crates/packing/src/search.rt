@@ -1,148 +1,115 @@
 // The searches: for the least base of a row, and for the least cell of a state.
-ghost use Rattle.std.specs.Prelude.{◌≡◌, false, [], ◌≤◌, length, replicate};
+ghost use Rattle.std.specs.Prelude.{◌≡◌, false, ◌+◌, ◌≤◌, replicate};
+ghost use Rattle.std.specs.List.{list_all};
 ghost use Rattle.cells.specs.Read.{is_number};
-ghost use Rattle.packing.specs.Bench.{base_of_b, used_b, first_b, free2_b, inside};
-ghost use Rattle.packing.specs.Written.{bench, as_kind, cell_of, free_in, every_upto, Marked, test_b};
+ghost use Rattle.packing.specs.Bench.{base_of_b, used_b, free2_b, first_b, inside};
+ghost use Rattle.packing.specs.Gathered.{free_in, Marked, test_b};
+ghost use Rattle.packing.specs.Lent.{as_kind, cells};
 
+use crate::Kind;
+use crate::bench::Bench;
+use crate::job::Job;
+use crate::row::Row;
 use number::Signed;
 
 // Cell c is free; those at W or above are.
 fn is_free(marks: &[u32], c: usize) -> bool
     ensures { result ≡ free_in marks.now c }
 {
-    number::at_u32(marks, c) == 0
+    number::at(marks, c, 0) == 0
 }
 
-// Cell x and the one after it are free.
-fn are_free(marks: &[u32], x: usize) -> bool
-    requires { x ≤ 3000000 }
-    ensures { result ≡ free2_b (bench [] [] marks.now []) x }
-{
-    if is_free(marks, x) {
-        is_free(marks, x + 1)
-    } else {
+impl<'a> Bench<'a> {
+    // The least cell from 1 up that is free with the one after it; so many cells are tried at most.
+    pub(crate) fn least_home(&self, job: Job) -> usize
+        ensures first { result ≡ first_b (free2_b (cells self.now)) job.entry.tries 1 (free2_b (cells self.now) 1) }
+        ensures low { result ≤ 3000001 }
+    {
+        let marks = &*self.marks;
+        for x in 1..job.tries + 1 {
+            if is_free(marks, x) && is_free(marks, x + 1) {
+                return x;
+            }
+        }
+        job.tries + 1
+    }
+
+    // b is the base of state s. It may be above a u32, so what stands in the cell is compared with it and not the other way round.
+    fn has_base(&self, s: u32, kind: Kind, b: usize) -> bool
+        ensures { result ≡ is_number (base_of_b (as_kind kind) (cells self.now) s) b }
+    {
+        match number::at_i32(self.base, self.base_cell(s, kind)) {
+            Signed::Plus(n) => n as usize == b,
+            Signed::Minus(_) => false,
+        }
+    }
+
+    // b is the base of a state below s.
+    fn is_used(&self, s: u32, kind: Kind, b: usize) -> bool
+        ensures { result ≡ used_b (cells self.now) (as_kind kind) b s }
+    {
+        for n in 0..s {
+            if self.has_base(n, kind, b) {
+                return true;
+            }
+        }
         false
     }
-}
 
-// The cell that holds the base of state s of one kind: its own, or the attached one.
-pub(crate) fn base_cell(place: &[u32], s: u32, goto: bool) -> usize
-    ensures { result ≡ cell_of (as_kind goto) place.now s }
-{
-    let x = number::at_u32(place, s as usize) as usize;
-    if goto { x + 1 } else { x }
-}
-
-// b is the base of state s.
-fn has_base(base: &[i32], place: &[u32], s: u32, goto: bool, b: usize) -> bool
-    ensures { result ≡ is_number (base_of_b (as_kind goto) (bench base.now [] [] place.now) s) b }
-{
-    match number::at_i32(base, base_cell(place, s, goto)) {
-        Signed::Plus(n) => n as usize == b,
-        Signed::Minus(_) => false,
-    }
-}
-
-// b is the base of a state below s.
-fn is_used(base: &[i32], place: &[u32], s: u32, goto: bool, b: usize) -> bool
-    ensures { result ≡ used_b (bench base.now [] [] place.now) (as_kind goto) b s }
-{
-    let mut n = s;
-    while 0 < n {
-        n -= 1;
-        if has_base(base, place, n, goto, b) {
-            return true;
-        }
-    }
-    false
-}
-
-// Marks the bases of one kind of the states below s; one outside `used` is left out.
-pub(crate) fn mark_used(base: &[i32], place: &[u32], s: u32, goto: bool, used: &mut [bool])
-    requires { used.old ≡ replicate 16384 false }
-    ensures { Marked (bench base.now [] [] place.now) (as_kind goto) s used.new }
-{
-    let mut n: u32 = 0;
-    while n < s {
-        let b = number::plus_at(base, base_cell(place, n, goto)) as usize;
-        n += 1;
-        if b < used.len() {
-            used[b] = true;
-        }
-    }
-}
-
-// b is the base of a state below s, as `used` says where it reaches so far.
-fn is_base(base: &[i32], place: &[u32], used: &[bool], s: u32, goto: bool, b: usize) -> bool
-    requires { (1 ≤ b) × Marked (bench base.now [] [] place.now) (as_kind goto) s used.now }
-    ensures { result ≡ used_b (bench base.now [] [] place.now) (as_kind goto) b s }
-{
-    if b < used.len() {
-        used[b]
-    } else {
-        is_used(base, place, s, goto, b)
-    }
-}
-
-// The least base from 1 up that is no earlier row's and from which the first n cells of `need` are free; `fuel` bases are tried at most.
-pub(crate) fn least_base(
-    base: &[i32],
-    marks: &[u32],
-    place: &[u32],
-    used: &[bool],
-    need: &[u32],
-    n: usize,
-    s: u32,
-    goto: bool,
-    fuel: usize,
-) -> usize
-    requires { (fuel ≤ 3000000) × ((n ≤ length need.now) × Marked (bench base.now [] [] place.now) (as_kind goto) s used.now) }
-    ensures { (result ≡ first_b (test_b (bench base.now [] marks.now place.now) (as_kind goto) s need.now n) fuel 1 (test_b (bench base.now [] marks.now place.now) (as_kind goto) s need.now n 1)) × (result ≤ 3000001) }
-{
-    let mut b: usize = 1;
-    'bases: while b <= fuel {
-        let mut i: usize = 0;
-        while i < n {
-            if !is_free(marks, b + need[i] as usize) {
-                b += 1;
-                continue 'bases;
+    // Marks the bases of one kind of the states below s; one outside `used` is left out.
+    fn mark_used(&self, s: u32, kind: Kind, used: &mut [bool])
+        requires { used.old ≡ replicate 16384 false }
+        ensures { Marked (cells self.now) (as_kind kind) s used.new }
+    {
+        for n in 0..s {
+            let b = self.base_of(n, kind) as usize;
+            if b < used.len() {
+                used[b] = true;
             }
-            i += 1;
         }
-        if !is_base(base, place, used, s, goto, b) {
-            return b;
-        }
-        b += 1;
     }
-    b
+
+    // b is the base of a state below s, as `used` says where it reaches so far.
+    fn is_base(&self, used: &[bool], s: u32, kind: Kind, b: usize) -> bool
+        requires base { 1 ≤ b }
+        requires used { Marked (cells self.now) (as_kind kind) s used.now }
+        ensures { result ≡ used_b (cells self.now) (as_kind kind) b s }
+    {
+        if b < used.len() {
+            used[b]
+        } else {
+            self.is_used(s, kind, b)
+        }
+    }
+
+    // The least base from 1 up that is no earlier row's and from which the cells of `need` are free; so many bases are tried at most.
+    pub(crate) fn least_base(&self, row: Row, need: &[u32]) -> usize
+        ensures first { result ≡ first_b (test_b (cells self.now) (as_kind row.entry.kind) row.entry.state need.now) row.entry.job.tries 1 (test_b (cells self.now) (as_kind row.entry.kind) row.entry.state need.now 1) }
+        ensures low { result ≤ 3000001 }
+    {
+        // No heap: the bases that earlier rows have are flags in the frame.
+        let mut used = [false; 16384];
+        self.mark_used(row.state, row.kind, &mut used);
+        let marks = &*self.marks;
+        // A labelled nested search is a form that the requirements name (docs/DECISIONS.md).
+        'bases: for b in 1..row.job.tries + 1 {
+            for c in need {
+                if !is_free(marks, b + *c as usize) {
+                    continue 'bases;
+                }
+            }
+            if !self.is_base(&used, row.state, row.kind, b) {
+                return b;
+            }
+        }
+        row.job.tries + 1
+    }
 }
 
-// The first n cells of `need`, counted from b, are below w.
-pub(crate) fn all_inside(need: &[u32], n: usize, b: usize, w: usize) -> bool
-    requires { (b ≤ 4000000) × (n ≤ length need.now) }
-    ensures { result ≡ every_upto (inside w) b need.now n }
+// The cells of `need`, counted from b, are below w.
+pub(crate) fn all_inside(need: &[u32], b: usize, w: usize) -> bool
+    requires { b ≤ 4000000 }
+    ensures { result ≡ list_all (λ c. inside w (b + c)) need.now }
 {
-    let mut i: usize = 0;
-    while i < n {
-        if w <= b + need[i] as usize {
-            return false;
-        }
-        i += 1;
-    }
-    true
-}
-
-// The least cell from 1 up that is free with the one after it; `fuel` cells are tried at most.
-pub(crate) fn least_home(marks: &[u32], fuel: usize) -> usize
-    requires { fuel ≤ 3000000 }
-    ensures { (result ≡ first_b (free2_b (bench [] [] marks.now [])) fuel 1 (free2_b (bench [] [] marks.now []) 1)) × (result ≤ 3000001) }
-{
-    let mut x: usize = 1;
-    while x <= fuel {
-        if are_free(marks, x) {
-            return x;
-        }
-        x += 1;
-    }
-    x
+    need.iter().all(|c| b + (*c as usize) < w)
 }

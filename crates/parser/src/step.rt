@@ -2,21 +2,26 @@
 ghost use Rattle.std.specs.Prelude.{◌≡◌};
 ghost use Rattle.parser.specs.Step.{rules_fit, stands, step_fits, stepping, step_at};
 
-use crate::Stepped;
-use crate::moves::packed_move;
 use crate::parse::packed_fits;
+use cells::reader::Reader;
+use cells::reading::Cells;
 use machine::job::refused;
-use machine::{Answer, State};
-use tables::Sizes;
+use machine::task::Task;
+use machine::{Ran, State, Stop};
+use std::ops::ControlFlow;
+use tables::{Grammar, Refusal};
 
 // The lists of left sides and of lengths have an element for each rule.
-fn rules_fit(z: Sizes, left: &[u32], lens: &[u32]) -> bool
-    ensures { result ≡ rules_fit z left.now lens.now }
+#[tactic(auto, using(std::proofs::lemmas::Bool::Decides::nat_tests), unfolding(crate::specs::Step::rules_fit))]
+fn rules_fit(grammar: Grammar) -> bool
+    ensures { result ≡ rules_fit grammar.entry.sizes grammar.entry.left.now grammar.entry.lens.now }
 {
-    left.len() == z.rules as usize && lens.len() == z.rules as usize
+    let rules = grammar.sizes.rules as usize;
+    grammar.left.len() == rules && grammar.lens.len() == rules
 }
 
 // The state stands in the stack, and has passed no more tokens than it made moves.
+#[tactic(auto, using(std::proofs::lemmas::Bool::Decides::nat_tests), unfolding(crate::specs::Step::stands))]
 fn is_standing(stack: &[u32], s: State) -> bool
     ensures { result ≡ stands s stack.now }
 {
@@ -24,44 +29,47 @@ fn is_standing(stack: &[u32], s: State) -> bool
 }
 
 // Base, Check, tokens and limit, the lists of left sides and of lengths, and the state are in their bounds.
+#[tactic(auto, unfolding(crate::specs::Step::step_fits))]
 fn step_fits(
-    z: Sizes,
-    left: &[u32],
-    lens: &[u32],
-    base: &[i32],
-    check: &[i32],
+    grammar: Grammar,
+    cells: Cells,
     tokens: &[u32],
     limit: u32,
     stack: &[u32],
     s: State,
 ) -> bool
-    ensures { result ≡ step_fits z left.now lens.now base.now check.now tokens.now limit s stack.now }
+    ensures { result ≡ step_fits grammar.entry.sizes grammar.entry.left.now grammar.entry.lens.now cells.entry.base.now cells.entry.check.now tokens.now limit s stack.now }
 {
-    packed_fits(base, check, tokens, limit) && (rules_fit(z, left, lens) && is_standing(stack, s))
+    packed_fits(cells, tokens, limit) && (rules_fit(grammar) && is_standing(stack, s))
 }
 
 // SIZE, MOVES, else the move.
+#[tactic(auto, using(std::proofs::lemmas::Bool::Decides::nat_tests), unfolding(crate::specs::Step::step_at, crate::specs::Step::made))]
 pub fn step(
-    z: Sizes,
-    left: &[u32],
-    lens: &[u32],
-    base: &[i32],
-    check: &[i32],
+    grammar: Grammar,
+    cells: Cells,
     tokens: &[u32],
     limit: u32,
     stack: &mut [u32],
     list: &mut [u32],
     s: State,
-) -> Stepped
-    ensures { stepping result stack.new list.new ≡ step_at z left.now lens.now base.now check.now tokens.now limit s stack.old list.old }
+) -> Result<ControlFlow<Ran, State>, Refusal>
+    ensures { stepping result stack.new list.new ≡ step_at grammar.entry.sizes grammar.entry.left.now grammar.entry.lens.now cells.entry.base.now cells.entry.check.now tokens.now limit s stack.old list.old }
 {
-    if step_fits(z, left, lens, base, check, tokens, limit, stack, s) {
-        if s.moves < limit {
-            Stepped::Made(packed_move(z, left, lens, base, check, tokens, stack, list, s))
-        } else {
-            Stepped::Made(refused(s, Answer::Moves(s.place)))
-        }
-    } else {
-        Stepped::Size
+    if !step_fits(grammar, cells, tokens, limit, stack, s) {
+        return Err(Refusal::Size);
     }
+    if s.moves >= limit {
+        return Ok(refused(s, Err(Stop::Moves(s.place))));
+    }
+    let reads = Reader {
+        rules: grammar.sizes.rules,
+        cells,
+    };
+    let task = Task {
+        grammar,
+        tokens,
+        reads,
+    };
+    Ok(task.one_move(stack, list, s))
 }

@@ -4,67 +4,63 @@
 ghost use Rattle.std.specs.Prelude.{◌≡◌};
 ghost use Rattle.sheets.specs.Emit.{Emitted};
 ghost use Rattle.packing.specs.Written.{bench};
-ghost use Rattle.answers.specs.Told.{told, told_of};
+ghost use Rattle.packing.specs.Packing.{said_of, packing_result};
 ghost use Rattle.printed.specs.Printed.{board_packed, signed_text, board_read, read_text, printed};
 
 use answers::Answer;
-use answers::packed::packed;
-use answers::sheet::read;
+use packing::PackRefusal;
 use packing::pack::pack;
 use sheet_reader::read::read_sheet;
+use tables::Signing;
 use texts::print::{print_cells, print_refusal};
 
 // Packs the small board with this signing into the lent arrays.
+#[tactic(auto, unfolding(crate::specs::Printed::board_packed))]
 fn pack_board(
-    srule: &[u32],
-    sgoto: &[u32],
+    signing: Signing,
     base: &mut [i32],
     check: &mut [i32],
     marks: &mut [u32],
     place: &mut [u32],
-) -> Answer
-    ensures { told result (bench base.new check.new marks.new place.new) ≡ told_of (board_packed srule.now sgoto.now (bench base.old check.old marks.old place.old)) }
+) -> Result<usize, PackRefusal>
+    ensures { packing_result (said_of result) (bench base.new check.new marks.new place.new) ≡ board_packed signing.entry.rules.now signing.entry.targets.now (bench base.old check.old marks.old place.old) }
 {
     let b = board::small();
-    let left = b.left;
-    let lens = b.lens;
-    let rights = b.rights;
-    let table = b.table;
-    let p = pack(
-        b.sizes, b.states, &left, &lens, &rights, &table, srule, sgoto, base, check, marks, place,
-    );
-    packed(p)
+    pack(b.grammar(), b.table(), signing, base, check, marks, place)
 }
 
 // Prints what packing the small board with this signing gives.
-fn print_signed(srule: &[u32], sgoto: &[u32], out: &mut [u8]) -> usize
-    ensures { Emitted out.old 0 (signed_text srule.now sgoto.now) result out.new }
+fn print_signed(signing: Signing, out: &mut [u8]) -> usize
+    ensures { Emitted out.old 0 (signed_text signing.entry.rules.now signing.entry.targets.now) result out.new }
 {
-    let mut base = [0i32; 64];
-    let mut check = [0i32; 64];
-    let mut marks = [0u32; 64];
-    let mut place = [0u32; 7];
-    let said = pack_board(srule, sgoto, &mut base, &mut check, &mut marks, &mut place);
-    let number = said.number;
-    if number == 0 {
-        return print_cells(&base, &check, said.first as u32, out);
+    // No heap: the 64 cells of document 01's board stand in the frame.
+    let mut base = [0; 64];
+    let mut check = [0; 64];
+    let mut marks = [0; 64];
+    let mut place = [0; 7];
+    let said = pack_board(signing, &mut base, &mut check, &mut marks, &mut place);
+    match said {
+        Ok(count) => print_cells(&base, &check, count as u32, out),
+        Err(e) => print_refusal(Answer::from(e).number, out),
     }
-    print_refusal(number, out)
 }
 
 // Prints what a sheet of the small board gives.
 fn print_read(text: &[u8], out: &mut [u8]) -> usize
     ensures { Emitted out.old 0 (read_text (board_read text.now)) result out.new }
 {
-    let mut srule = [0u32; 7];
-    let mut sgoto = [0u32; 3];
+    let mut rules = [0; 7];
+    let mut targets = [0; 3];
     let b = board::small();
-    let said = read(read_sheet(b.sizes, b.states, text, &mut srule, &mut sgoto));
-    let number = said.number;
-    if number == 0 {
-        return print_signed(&srule, &sgoto, out);
+    let said = read_sheet(b.sizes, b.states, text, &mut rules, &mut targets);
+    let signing = Signing {
+        rules: &rules,
+        targets: &targets,
+    };
+    match said {
+        Ok(_) => print_signed(signing, out),
+        Err(e) => print_refusal(Answer::from(e).number, out),
     }
-    print_refusal(number, out)
 }
 
 // Puts what packsheet prints for the text at the front of `out`, and gives its length; what would fall outside is left out.
@@ -74,6 +70,7 @@ pub fn print_sheet(text: &[u8], out: &mut [u8]) -> usize
     if text.len() <= 65536 {
         print_read(text, out)
     } else {
+        // TEXT, by the number that `refusal_text` takes.
         print_refusal(16, out)
     }
 }

@@ -1,10 +1,9 @@
-// The sheet's reader, exported.
+// The sheet's reader, exported. C lends numbers and slices, so they stand apart here.
 ghost use Rattle.std.specs.Prelude.{◌≡◌};
 ghost use Rattle.sheets.specs.Outcome.{sheet_read};
 ghost use Rattle.answers.specs.Sheet.{read as read_by, read_of};
 
 use answers::Answer;
-use answers::sheet::read;
 use tables::Sizes;
 
 // Reads a sheet into the lent signing: OK with the length of the text, SIZE, LINE or SIGN.
@@ -20,11 +19,10 @@ pub extern "C" fn slettrein_sheet_read(
 ) -> Answer
     ensures { read_by result srule.new sgoto.new ≡ read_of (sheet_read (record { terminals = terminals; symbols = symbols; rules = rules }) states text.now srule.old sgoto.old) }
 {
-    let z = Sizes {
-        terminals: terminals,
-        symbols: symbols,
-        rules: rules,
+    let sizes = Sizes {
+        terminals,
+        symbols,
+        rules,
     };
-    let r = sheet_reader::read::read_sheet(z, states, text, srule, sgoto);
-    read(r)
+    sheet_reader::read::read_sheet(sizes, states, text, srule, sgoto).into()
 }

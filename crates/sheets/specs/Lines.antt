@@ -1,9 +1,8 @@
 -- LINE: what each line of a text must be, and the first that is not.
-use Rattle.std.specs.Prelude.{ℕ, zero, suc, ◌+◌, ◌-◌, ◌*◌, Bool, true, false, cond, ◌&&◌, List, [], ◌∷◌, ◌++◌, leb, eqb, length, drop}
+use Rattle.std.specs.Prelude.{ℕ, zero, suc, ◌+◌, ◌-◌, ◌*◌, Bool, true, false, cond, ◌&&◌, Option, Some, None, List, [], ◌∷◌, ◌++◌, leb, eqb, length, drop}
 use Rattle.tables.specs.declared.Sizes.{Sizes}
 use Rattle.tables.specs.Size.{is_within}
 use Rattle.sheets.specs.declared.Value.{Value}
-use Rattle.sheets.specs.declared.Value.TheVariants.{Is, Bad}
 use Rattle.sheets.specs.Sheet.{equals, line_end, none_word, state_key, goto_key, entry_key, header}
 
 -- the text begins with these bytes
@@ -16,32 +15,36 @@ begins (b ∷ k) (c ∷ t) = eqb b c && begins k t
 unfoldable pub stands : List ℕ → ℕ → List ℕ → Bool
 stands text at k = begins k (drop at text)
 
+-- this number, with the place after it
+abbrev pub value_to : ℕ → ℕ → Option Value
+value_to n at = Some (record { number = n; next = at })
+
 -- the digits that stand at `at`, after digits that write n: the number that all of them write, if it is not above `most`
-unfoldable pub digits_on : ℕ → ℕ → ℕ → List ℕ → Value
-digits_on most n at [] = Is n at
+unfoldable pub digits_on : ℕ → ℕ → ℕ → List ℕ → Option Value
+digits_on most n at [] = value_to n at
 digits_on most n at (c ∷ t) =
     cond (is_within 48 57 c)
-    (cond (leb (n * 10 + (c - 48)) most) (digits_on most (n * 10 + (c - 48)) (at + 1) t) Bad)
-    (Is n at)
+    (cond (leb (n * 10 + (c - 48)) most) (digits_on most (n * 10 + (c - 48)) (at + 1) t) None)
+    (value_to n at)
 
 -- a number 1..most without leading zeros
-unfoldable pub number_on : ℕ → ℕ → List ℕ → Value
-number_on most at [] = Bad
-number_on most at (c ∷ t) = cond (is_within 49 57 c) (digits_on most 0 at (c ∷ t)) Bad
+unfoldable pub number_on : ℕ → ℕ → List ℕ → Option Value
+number_on most at [] = None
+number_on most at (c ∷ t) = cond (is_within 49 57 c) (digits_on most 0 at (c ∷ t)) None
 
 -- the value at a place: `none`, or 1..65,535 without leading zeros
-unfoldable pub value_at : List ℕ → ℕ → Value
-value_at text at = cond (stands text at none_word) (Is 0 (at + length none_word)) (number_on 65535 at (drop at text))
+unfoldable pub value_at : List ℕ → ℕ → Option Value
+value_at text at = cond (stands text at none_word) (value_to 0 (at + length none_word)) (number_on 65535 at (drop at text))
 
 -- a value must be followed by LF
-abbrev pub ended_by : List ℕ → Value → Value
-ended_by text Bad = Bad
-ended_by text (Is v at) = cond (stands text at line_end) (Is v (at + length line_end)) Bad
+abbrev pub ended_by : List ℕ → Option Value → Option Value
+ended_by text None = None
+ended_by text (Some v) = cond (stands text v.next line_end) (value_to v.number (v.next + length line_end)) None
 
 -- the line of this key at a place: its value, and the place of the next line
-unfoldable pub entry_at : List ℕ → ℕ → List ℕ → Value
+unfoldable pub entry_at : List ℕ → ℕ → List ℕ → Option Value
 entry_at text at key =
-    cond (stands text at (key ++ equals)) (ended_by text (value_at text (at + length (key ++ equals)))) Bad
+    cond (stands text at (key ++ equals)) (ended_by text (value_at text (at + length (key ++ equals)))) None
 
 -- what a line must be: these bytes, or this key with some value
 pub data Want : Type 0 where
@@ -75,9 +78,9 @@ and_then v (values vs) = values (v ∷ vs)
 and_then v (bad_line n) = bad_line n
 
 -- line n has this value, and what comes after it is told by f from its place
-abbrev pub told : ℕ → Value → (ℕ → Told) → Told
-told n Bad f = bad_line n
-told n (Is v at) f = and_then v (f at)
+abbrev pub told : ℕ → Option Value → (ℕ → Told) → Told
+told n None f = bad_line n
+told n (Some v) f = and_then v.number (f v.next)
 
 -- the lines from line n on, which begins at `at`; bytes after the last line count as one line more
 unfoldable pub lines_from : List ℕ → List Want → ℕ → ℕ → Told

@@ -1,27 +1,43 @@
 -- What reading and writing a sheet say and leave, for all inputs.
-use Rattle.std.specs.Prelude.{ℕ, cond, List, [], ◌∷◌, ◌++◌, leb, eqb, length, take, drop}
+use Rattle.std.specs.Prelude.{ℕ, cond, Result, Ok, Err, List, [], ◌∷◌, ◌++◌, leb, eqb, length, take, drop}
 use Rattle.tables.specs.declared.Sizes.{Sizes}
 use Rattle.tables.specs.Said.{Said, OK, SIZE, LINE, TEXT}
 use Rattle.tables.specs.Size.{signing_fits}
-use Rattle.tables.specs.Judgement.{said_of, sign_judgement}
-use Rattle.sheets.specs.declared.Reading.{Reading}
-use Rattle.sheets.specs.declared.Reading.TheVariants as reading
-use Rattle.sheets.specs.declared.Writing.{Writing}
-use Rattle.sheets.specs.declared.Writing.TheVariants as writing
+use Rattle.tables.specs.Judgement.{refused, sign_judgement}
+use Rattle.sheets.specs.declared.ReadRefusal.{ReadRefusal}
+use Rattle.sheets.specs.declared.ReadRefusal.TheVariants as read_refusal
+use Rattle.sheets.specs.declared.WriteRefusal.{WriteRefusal}
+use Rattle.sheets.specs.declared.WriteRefusal.TheVariants as write_refusal
 use Rattle.sheets.specs.Sheet.{sheet_text}
 use Rattle.sheets.specs.Lines.{Told, values, bad_line, lines_of}
 
+-- reading gives the length of the text, or what it refuses
+abbrev pub Reading : Type 0
+Reading = Result ℕ ReadRefusal
+
+-- writing gives the length of the text, or what it refuses
+abbrev pub Writing : Type 0
+Writing = Result ℕ WriteRefusal
+
+-- the number and the values of each refusal of the reader
+abbrev pub read_refused : ReadRefusal → Said
+read_refused (read_refusal.Line n) = LINE n
+read_refused (read_refusal.Judged e) = refused e
+
 -- the number and the values of each case of reading
 abbrev pub read_said : Reading → Said
-read_said (reading.Read n) = OK (n ∷ [])
-read_said (reading.Line n) = LINE n
-read_said (reading.Refused j) = said_of j
+read_said (Ok n) = OK (n ∷ [])
+read_said (Err e) = read_refused e
+
+-- the number and the values of each refusal of the writer
+abbrev pub write_refused : WriteRefusal → Said
+write_refused write_refusal.Text = TEXT
+write_refused (write_refusal.Judged e) = refused e
 
 -- the number and the values of each case of writing
 abbrev pub write_said : Writing → Said
-write_said (writing.Written n) = OK (n ∷ [])
-write_said writing.Text = TEXT
-write_said (writing.Refused j) = said_of j
+write_said (Ok n) = OK (n ∷ [])
+write_said (Err e) = write_refused e
 
 -- what is said, and the final content of the signing
 pub record ReadOutcome : Type 0 where

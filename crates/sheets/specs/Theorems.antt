@@ -1,19 +1,17 @@
 -- What is proved of the sheet as a whole: a written sheet is read back, a signing has one text, and an input has one outcome. Assumes nothing.
-use Rattle.std.specs.Prelude.{◌≡◌, refl, true, List, [], ◌∷◌, ℕ, length, get_or, take}
+use Rattle.std.specs.Prelude.{◌≡◌, refl, true, Ok, Err, List, [], ◌∷◌, ℕ, length, get_or, take}
 use Rattle.std.proofs.Common.{sym, ap, ◌∙◌, arith}
 use Rattle.tables.specs.declared.Sizes.{Sizes}
 use Rattle.tables.specs.Said.{Said, OK}
 use Rattle.tables.specs.Size.{signing_fits}
-use Rattle.tables.specs.Judgement.{said_of}
-use Rattle.tables.specs.Laws.Judgement.{said-once}
-use Rattle.sheets.specs.declared.Reading.{Reading}
-use Rattle.sheets.specs.declared.Reading.TheVariants as reading
-use Rattle.sheets.specs.declared.Writing.{Writing}
-use Rattle.sheets.specs.declared.Writing.TheVariants as writing
+use Rattle.tables.specs.declared.Refusal.{Refusal}
+use Rattle.tables.specs.Judgement.{refused}
+use Rattle.sheets.specs.declared.ReadRefusal.TheVariants as read
+use Rattle.sheets.specs.declared.WriteRefusal.TheVariants as write
 use Rattle.sheets.specs.Sheet.{sheet_text}
-use Rattle.sheets.specs.Outcome.{read_said, write_said, ReadOutcome, read_outcome, WriteOutcome, write_outcome, sheet_read, sheet_write}
+use Rattle.sheets.specs.Outcome.{Reading, Writing, read_said, write_said, ReadOutcome, read_outcome, WriteOutcome, write_outcome, sheet_read, sheet_write}
 use Rattle.sheets.specs.Meaning.{Signed, Meaning}
-use Rattle.sheets.specs.Laws.Said.{ok-value, judged-number, judged-no-value}
+use Rattle.sheets.specs.Laws.Said.{ok-value, said-number, refused-some, refused-low, refused-once}
 use Rattle.sheets.specs.Laws.Round.{text-back, Written, written, written-text}
 use Rattle.sheets.specs.Laws.Unique.{read_only}
 
@@ -48,27 +46,27 @@ module _ (z : Sizes) (states : ℕ) where
 
 -- two readings of which the same is said are the same
 pub read-once : (a b : Reading) → read_said a ≡ read_said b → a ≡ b
-read-once (reading.Read m) (reading.Read n) e = ap reading.Read (ok-value e)
-read-once (reading.Read m) (reading.Line n) e = absurd (let k : ◌≡◌ {A = ℕ} 0 15 = ap (λ (s : Said). s.number) e in omega arith)
-read-once (reading.Read m) (reading.Refused j) e = absurd (judged-no-value j m (sym e))
-read-once (reading.Line m) (reading.Read n) e = absurd (let k : ◌≡◌ {A = ℕ} 15 0 = ap (λ (s : Said). s.number) e in omega arith)
-read-once (reading.Line m) (reading.Line n) e = ap reading.Line (ap (λ (s : Said). get_or s.values 0 0) e)
-read-once (reading.Line m) (reading.Refused j) e = absurd (let k : 15 ≡ (said_of j).number = ap (λ (s : Said). s.number) e in omega (arith, judged-number j))
-read-once (reading.Refused j) (reading.Read n) e = absurd (judged-no-value j n e)
-read-once (reading.Refused j) (reading.Line n) e = absurd (let k : (said_of j).number ≡ 15 = ap (λ (s : Said). s.number) e in omega (arith, judged-number j))
-read-once (reading.Refused i) (reading.Refused j) e = ap reading.Refused (said-once i j e)
+read-once (Ok m) (Ok n) e = ap Ok (ok-value e)
+read-once (Ok m) (Err (read.Line n)) e = absurd (let k : ◌≡◌ {A = ℕ} 0 15 = said-number e in omega arith)
+read-once (Ok m) (Err (read.Judged j)) e = absurd (let k : 0 ≡ (refused j).number = said-number e in omega (arith, refused-some j))
+read-once (Err (read.Line m)) (Ok n) e = absurd (let k : ◌≡◌ {A = ℕ} 15 0 = said-number e in omega arith)
+read-once (Err (read.Line m)) (Err (read.Line n)) e = ap (λ (n : ℕ). Err (read.Line n)) (ap (λ (s : Said). get_or s.values 0 0) e)
+read-once (Err (read.Line m)) (Err (read.Judged j)) e = absurd (let k : 15 ≡ (refused j).number = said-number e in omega (arith, refused-low j))
+read-once (Err (read.Judged j)) (Ok n) e = absurd (let k : (refused j).number ≡ 0 = said-number e in omega (arith, refused-some j))
+read-once (Err (read.Judged j)) (Err (read.Line n)) e = absurd (let k : (refused j).number ≡ 15 = said-number e in omega (arith, refused-low j))
+read-once (Err (read.Judged i)) (Err (read.Judged j)) e = ap (λ (j : Refusal). Err (read.Judged j)) (refused-once i j e)
 
 -- two writings of which the same is said are the same
 pub write-once : (a b : Writing) → write_said a ≡ write_said b → a ≡ b
-write-once (writing.Written m) (writing.Written n) e = ap writing.Written (ok-value e)
-write-once (writing.Written m) writing.Text e = absurd (let k : ◌≡◌ {A = ℕ} 0 16 = ap (λ (s : Said). s.number) e in omega arith)
-write-once (writing.Written m) (writing.Refused j) e = absurd (judged-no-value j m (sym e))
-write-once writing.Text (writing.Written n) e = absurd (let k : ◌≡◌ {A = ℕ} 16 0 = ap (λ (s : Said). s.number) e in omega arith)
-write-once writing.Text writing.Text e = refl
-write-once writing.Text (writing.Refused j) e = absurd (let k : 16 ≡ (said_of j).number = ap (λ (s : Said). s.number) e in omega (arith, judged-number j))
-write-once (writing.Refused j) (writing.Written n) e = absurd (judged-no-value j n e)
-write-once (writing.Refused j) writing.Text e = absurd (let k : (said_of j).number ≡ 16 = ap (λ (s : Said). s.number) e in omega (arith, judged-number j))
-write-once (writing.Refused i) (writing.Refused j) e = ap writing.Refused (said-once i j e)
+write-once (Ok m) (Ok n) e = ap Ok (ok-value e)
+write-once (Ok m) (Err write.Text) e = absurd (let k : ◌≡◌ {A = ℕ} 0 16 = said-number e in omega arith)
+write-once (Ok m) (Err (write.Judged j)) e = absurd (let k : 0 ≡ (refused j).number = said-number e in omega (arith, refused-some j))
+write-once (Err write.Text) (Ok n) e = absurd (let k : ◌≡◌ {A = ℕ} 16 0 = said-number e in omega arith)
+write-once (Err write.Text) (Err write.Text) e = refl
+write-once (Err write.Text) (Err (write.Judged j)) e = absurd (let k : 16 ≡ (refused j).number = said-number e in omega (arith, refused-low j))
+write-once (Err (write.Judged j)) (Ok n) e = absurd (let k : (refused j).number ≡ 0 = said-number e in omega (arith, refused-some j))
+write-once (Err (write.Judged j)) (Err write.Text) e = absurd (let k : (refused j).number ≡ 16 = said-number e in omega (arith, refused-low j))
+write-once (Err (write.Judged i)) (Err (write.Judged j)) e = ap (λ (j : Refusal). Err (write.Judged j)) (refused-once i j e)
 
 -- two outcomes that the reader's contract allows for one input are equal
 pub read-one-outcome : (a b : Reading) (rules targets rules₂ targets₂ : List ℕ) (o : ReadOutcome)

@@ -1,55 +1,64 @@
 // The signing sheet: the one text of a signing, and what reading and writing it say.
 #![tactic(auto)]
 
-use tables::Judged;
+ghost use Rattle.std.specs.Prelude.{◌≡◌};
+ghost use Rattle.sheets.specs.declared.ReadRefusal.TheVariants as read_refusal;
+ghost use Rattle.sheets.specs.declared.WriteRefusal.TheVariants as write_refusal;
 
-// Where the text goes on after bytes that were looked for.
-#[derive(Clone, Copy)]
-pub enum Past {
-    To(usize),
-    Missing,
+use tables::Refusal;
+
+// What stands after `=`: 0 for `none`, as in a signing that C lends, else the number; with the place after it.
+#[derive(Clone, Copy, Debug, PartialEq, Eq)]
+pub struct Value {
+    pub number: u32,
+    pub next: usize,
 }
 
-// What stands after `=`: 0 for `none`, else the number; with the place after it.
-#[derive(Clone, Copy)]
-pub enum Value {
-    Is(u32, usize),
-    Bad,
-}
-
-// Where the text goes on after lines that are as they must be, or the first line that is not.
-#[derive(Clone, Copy)]
-pub enum Lines {
-    To(usize),
-    Bad(usize),
-}
+// The first line that is not as it must be.
+#[derive(Clone, Copy, Debug, PartialEq, Eq)]
+pub struct BadLine(pub usize);
 
 // The key of an entry's line: `state.` and the state, or `goto.` and the nonterminal.
-#[derive(Clone, Copy)]
+#[derive(Clone, Copy, Debug, PartialEq, Eq)]
 pub enum Key {
     State(u32),
     Goto(u32),
 }
 
-// A sheet reader: the lent text and its place in it.
-#[derive(Clone, Copy)]
-pub struct SheetReader<'a> {
-    pub text: &'a [u8],
-    pub at: usize,
-}
-
-// What reading a sheet says: the length of the text, the first line that is not as it must be, or a refusal of sizes or signing.
-#[derive(Clone, Copy)]
-pub enum Reading {
-    Read(usize),
+// What the reader refuses: sizes or a signing, or the first line that is not as it must be.
+#[derive(Clone, Copy, Debug, PartialEq, Eq)]
+pub enum ReadRefusal {
+    Judged(Refusal),
     Line(usize),
-    Refused(Judged),
 }
 
-// What writing a sheet says: the length of the text, that the buffer is too short for it, or a refusal of sizes or signing.
-#[derive(Clone, Copy)]
-pub enum Writing {
-    Written(usize),
+impl From<Refusal> for ReadRefusal {
+    ghost from_gives = { λ r e. e ≡ read_refusal.Judged r };
+
+    fn from(r: Refusal) -> ReadRefusal {
+        ReadRefusal::Judged(r)
+    }
+}
+
+impl From<BadLine> for ReadRefusal {
+    ghost from_gives = { λ b e. e ≡ read_refusal.Line b.0 };
+
+    fn from(b: BadLine) -> ReadRefusal {
+        ReadRefusal::Line(b.0)
+    }
+}
+
+// What the writer refuses: sizes or a signing, or a buffer that is too short for the text.
+#[derive(Clone, Copy, Debug, PartialEq, Eq)]
+pub enum WriteRefusal {
+    Judged(Refusal),
     Text,
-    Refused(Judged),
+}
+
+impl From<Refusal> for WriteRefusal {
+    ghost from_gives = { λ r e. e ≡ write_refusal.Judged r };
+
+    fn from(r: Refusal) -> WriteRefusal {
+        WriteRefusal::Judged(r)
+    }
 }

@@ -1,10 +1,8 @@
 -- The table check worked out: the edges as a list, the states that they reach, and for each state and rule the states before its right side, column by column.
-use Rattle.std.specs.Prelude.{Bool, true, false, not, cond, ◌&&◌, List, [], ◌∷◌, map, reverse, ℕ, zero, suc, ltb, eqb}
-use Rattle.tables.specs.declared.Lowest.{Lowest}
-use Rattle.tables.specs.declared.Lowest.TheVariants.{At, Nowhere}
+use Rattle.std.specs.Prelude.{Bool, true, false, not, cond, ◌&&◌, List, [], ◌∷◌, map, reverse, ℕ, zero, suc, ltb, eqb, Option, Some, None}
 use Rattle.tables.specs.Lists.{all, among, lowest}
 use Rattle.tables.specs.Grammar.{Grammar}
-use Rattle.machine.specs.Reads.{Act, shift, reduce, accept, blank, malformed, Go, goes, nowhere, broken, Reads}
+use Rattle.reads.specs.Reads.{Act, shift, reduce, accept, blank, malformed, Go, goes, nowhere, broken, Reads}
 use Rattle.soundness.specs.Verdict.{Verdict, sound, unsound}
 use Rattle.soundness.specs.Lists.{those, collect}
 
@@ -113,22 +111,22 @@ unfoldable pub rules_at : Grammar → Reads → ℕ → List ℕ
 rules_at g v s = collect (λ a. rule_of (v.act s a)) g.T
 
 -- the least rule that fails at s, counted from 0
-unfoldable pub rule_fault : Grammar → Reads → List Arc → ℕ → List ℕ → Lowest
+unfoldable pub rule_fault : Grammar → Reads → List Arc → ℕ → List ℕ → Option ℕ
 rule_fault g u es s rules = lowest (λ i. keeps g u es s (suc i) (among (suc i) rules)) g.G
 
 -- a state that is not reached never fails
-unfoldable pub state_fault : Grammar → Reads → Reads → List Arc → ℕ → Bool → Lowest
+unfoldable pub state_fault : Grammar → Reads → Reads → List Arc → ℕ → Bool → Option ℕ
 state_fault g u v es s true = rule_fault g u es s (rules_at g v s)
-state_fault g u v es s false = Nowhere
+state_fault g u v es s false = None
 
 -- what was found below state s, else what is found there
-unfoldable pub or_fault : Verdict → Lowest → ℕ → Verdict
+unfoldable pub or_fault : Verdict → Option ℕ → ℕ → Verdict
 or_fault (unsound p r) l s = unsound p r
-or_fault sound (At i) s = unsound s (suc i)
-or_fault sound Nowhere s = sound
+or_fault sound (Some i) s = unsound s (suc i)
+or_fault sound None s = sound
 
 -- the least of this many states where fault is found
-unfoldable pub least_fault : (ℕ → Lowest) → ℕ → Verdict
+unfoldable pub least_fault : (ℕ → Option ℕ) → ℕ → Verdict
 least_fault fault zero = sound
 least_fault fault (suc s) = or_fault (least_fault fault s) (fault s) s
 

@@ -16,10 +16,12 @@ pub mod Keeps
 pub mod Demand
 pub mod Yields
 pub mod Accepted
+pub mod Search
 pub mod Edges
 pub mod Ways
 pub mod Walk
 pub mod Back
 pub mod Rules
+pub mod Judged
 pub mod Faults
 pub mod Answer

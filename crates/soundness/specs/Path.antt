@@ -1,7 +1,7 @@
 -- The edges of a table, and the paths of edges from state 0.
 use Rattle.std.specs.Prelude.{◌≡◌, List, [], ◌∷◌, ℕ, ◌≤◌, ◌<◌}
 use Rattle.tables.specs.Grammar.{Grammar}
-use Rattle.machine.specs.Reads.{shift, goes, Reads}
+use Rattle.reads.specs.Reads.{shift, goes, Reads}
 
 -- an edge from s on x to t: a shift or a goto
 pub data Edge (g : Grammar) (m : Reads) (s x t : ℕ) : Type 0 where

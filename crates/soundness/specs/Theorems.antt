@@ -1,11 +1,11 @@
 -- What the table check promises. Each theorem is proved by one application of a law; Path, Derivation and Verdict have the definitions. Assumes nothing.
-use Rattle.std.specs.Prelude.{◌≡◌, ◌≢◌, ◌↔◌, true, List, [], ◌∷◌, reverse, ℕ, ℤ, get_or, take}
+use Rattle.std.specs.Prelude.{◌≡◌, ◌≢◌, ◌↔◌, true, List, [], ◌∷◌, reverse, ℕ, ℤ, get_or, take, Ok}
 use Rattle.tables.specs.declared.Sizes.{Sizes}
 use Rattle.tables.specs.Said.{OK, UNSOUND}
 use Rattle.tables.specs.Grammar.{Grammar, grammar}
 use Rattle.tables.specs.Judgement.{judgement}
-use Rattle.machine.specs.declared.Answer.TheVariants.{Accepted}
-use Rattle.machine.specs.Reads.{Reads, plain_reads, unsigned_reads}
+use Rattle.reads.specs.Reads.{Reads}
+use Rattle.machine.specs.Reads.{plain_reads, unsigned_reads}
 use Rattle.machine.specs.Machine.{Job, parse}
 use Rattle.machine.specs.Outcome.{leaves, job_fits, job, plain_parse}
 use Rattle.soundness.specs.Path.{PathTo}
@@ -63,7 +63,7 @@ module _ (z : Sizes) (states : ℕ) (left lens rights : List ℕ) (table : List 
     derives = passed-derives z states left lens rights table srule sgoto passed tokens limit stack list
 
     -- KEEPS: what the unsigned table accepts is accepted with the same reductions and count of moves, in the same room and limit.
-    pub keeps : (n : ℕ) → job_fits tokens limit ≡ true → (parse (grammar z left lens rights) (unsigned_reads z table) (job tokens stack list) limit).answer ≡ Accepted n
+    pub keeps : (n : ℕ) → job_fits tokens limit ≡ true → (parse (grammar z left lens rights) (unsigned_reads z table) (job tokens stack list) limit).answer ≡ Ok n
         → plain_parse z states left lens rights table srule sgoto tokens limit stack list
         ≡ leaves (parse (grammar z left lens rights) (unsigned_reads z table) (job tokens stack list) limit) stack list
     keeps = passed-keeps z states left lens rights table srule sgoto passed tokens limit stack list
@@ -75,6 +75,6 @@ module _ (z : Sizes) (states : ℕ) (left lens rights : List ℕ) (table : List 
     keeps-plain = passed-keeps-plain z states left lens rights table srule sgoto passed tokens limit stack list
 
 -- KEEPS, of the machine by itself: for any job and limit, and with no check at all, a signing takes nothing away that the unsigned table accepts.
-pub keeps-any : (g : Grammar) (z : Sizes) (table : List ℤ) (srule sgoto : List ℕ) (j : Job) (limit n : ℕ) → (parse g (unsigned_reads z table) j limit).answer ≡ Accepted n
+pub keeps-any : (g : Grammar) (z : Sizes) (table : List ℤ) (srule sgoto : List ℕ) (j : Job) (limit n : ℕ) → (parse g (unsigned_reads z table) j limit).answer ≡ Ok n
     → parse g (plain_reads z table srule sgoto) j limit ≡ parse g (unsigned_reads z table) j limit
 keeps-any g z table srule sgoto j limit n = parse-keeps g (plain-fills z table srule sgoto) j limit

@@ -1,7 +1,7 @@
 -- 'The table check': its conditions, and its verdict.
 use Rattle.std.specs.Prelude.{◌≡◌, ◌≢◌, ◌⊎◌, List, ◌∷◌, ◌++◌, reverse, ℕ, ◌<◌, length, drop}
 use Rattle.tables.specs.Grammar.{Grammar}
-use Rattle.machine.specs.Reads.{reduce, accept, nowhere, Reads}
+use Rattle.reads.specs.Reads.{reduce, accept, nowhere, Reads}
 use Rattle.soundness.specs.Path.{PathTo}
 
 -- row s reduces by rule r; accept is rule 1

@@ -1,94 +1,90 @@
-// The way into each state: 0 where no path leads, the symbol on which all edges from reached states enter it, else M.
-ghost use Rattle.std.specs.Prelude.{◌≡◌, ◌<◌, replicate};
+// The way into each state: the symbol on which all edges from reached states enter it, if it is one.
+ghost use Rattle.std.specs.Prelude.{◌≡◌, ◌<◌};
 ghost use Rattle.tables.specs.Lists.{lowest};
-ghost use Rattle.soundness.specs.Laws.Edges.{target_at, Tabled, Reached};
-ghost use Rattle.soundness.specs.Laws.Ways.{joined_way, joined_at, Ways};
-ghost use Rattle.soundness.specs.Laws.Walk.{Walked, is_done, Entered};
+ghost use Rattle.soundness.specs.Laws.Edges.{Reached};
+ghost use Rattle.soundness.specs.Laws.Ways.{way_of, joined_way, joined_to, Ways};
+ghost use Rattle.soundness.specs.Laws.Walk.{Walked, is_unreached, is_done, Entered};
 
-use crate::flags::{is_in, put_in};
-use tables::{Lowest, Sizes};
+use crate::paths::Judged;
 
-// The state that the edge of s on x leads to; 0 where there is none.
-pub(crate) fn target(z: Sizes, table: &[i32], s: u32, x: u32) -> u32
-    ensures { result ≡ target_at z table.now s x }
-{
-    number::plus_at(table, s as usize * z.symbols as usize + x as usize)
+// No path leads to the state, all edges enter it on one symbol, or they do on several; the path of no edges counts as another symbol.
+#[derive(Clone, Copy, Debug, PartialEq, Eq)]
+pub(crate) enum WayIn {
+    Unreached,
+    On(u32),
+    Several,
 }
 
-// The way into a state that had the way v, with an edge on x more.
-fn joined(v: u32, x: u32, several: u32) -> u32
-    ensures { result ≡ joined_way v x several }
-{
-    if v == 0 {
-        return x;
-    }
-    if v == x { x } else { several }
-}
-
-// The edge of s on x, if there is one, joins the way into the state that it leads to.
-fn join(z: Sizes, table: &[i32], ways: &mut [u32], s: u32, x: u32)
-    ensures { ways.new ≡ joined_at z table.now s x ways.old }
-{
-    let t = target(z, table, s, x) as usize;
-    if t != 0 {
-        let v = number::at_u32(ways, t);
-        number::put_u32(ways, t, joined(v, x, z.symbols));
+impl WayIn {
+    // The way, with an edge on x more.
+    fn joined(self, x: u32) -> WayIn
+        ensures { result ≡ joined_way self x }
+    {
+        match self {
+            WayIn::Unreached => WayIn::On(x),
+            WayIn::On(w) => { if w == x { self } else { WayIn::Several } }
+            WayIn::Several => WayIn::Several,
+        }
     }
 }
 
-// The edges of s join the ways.
-fn walk(z: Sizes, states: u32, table: &[i32], ways: &mut [u32], s: u32)
-    requires { Tabled z states table.now × (Ways z states table.now ways.old × (Reached z table.now s × (s < states))) }
-    ensures { Walked z states table.now s ways.old ways.new }
+// An edge on x that leads to this state joins the way into it.
+fn join(ways: &mut [WayIn], x: u32, to: Option<u32>)
+    ensures { ways.new ≡ joined_to ways.old x to }
 {
-    let mut x: u32 = 1;
-    while x < z.symbols {
-        join(z, table, ways, s, x);
-        x += 1;
+    if let Some(t) = to {
+        let way = number::at(ways, t as usize, WayIn::Unreached);
+        number::put(ways, t as usize, way.joined(x));
     }
+}
+
+// No path leads to s.
+pub(crate) fn is_unreached(ways: &[WayIn], s: u32) -> bool
+    ensures { result ≡ is_unreached (way_of ways.now s) }
+{
+    number::at(ways, s as usize, WayIn::Unreached) == WayIn::Unreached
 }
 
 // No path leads to s so far, or its edges have been walked.
-fn is_done(ways: &[u32], walked: &[bool], s: u32) -> bool
+fn is_done(ways: &[WayIn], walked: &[bool], s: u32) -> bool
     ensures { result ≡ is_done ways.now walked.now s }
 {
-    if number::at_u32(ways, s as usize) == 0 {
-        true
-    } else {
-        is_in(walked, s)
-    }
+    is_unreached(ways, s) || number::at(walked, s as usize, false)
 }
 
 // The lowest state that is reached and whose edges have not been walked.
-fn lowest_open(states: u32, ways: &[u32], walked: &[bool]) -> Lowest
+fn lowest_open(states: u32, ways: &[WayIn], walked: &[bool]) -> Option<u32>
     ensures { result ≡ lowest (is_done ways.now walked.now) states }
 {
-    let mut s: u32 = 0;
-    while s < states {
-        if !is_done(ways, walked, s) {
-            return Lowest::At(s as usize);
-        }
-        s += 1;
-    }
-    Lowest::Nowhere
+    (0..states).find(|s| !is_done(ways, walked, *s))
 }
 
-// The ways into all states, from the path of no edges on.
-pub(crate) fn find_ways(z: Sizes, states: u32, table: &[i32], ways: &mut [u32])
-    requires { Tabled z states table.now × (ways.old ≡ replicate 1024 0) }
-    ensures { Entered z states table.now ways.new }
-{
-    let mut walked = [false; 1024];
-    number::put_u32(ways, 0, z.symbols);
-    loop {
-        match lowest_open(states, ways, &walked) {
-            Lowest::At(s) => {
-                put_in(&mut walked, s as u32);
-                walk(z, states, table, ways, s as u32);
-            }
-            Lowest::Nowhere => {
-                return;
-            }
+impl<'a> Judged<'a> {
+    // The edges of s join the ways.
+    fn walk(self, ways: &mut [WayIn], s: u32)
+        requires kept { Ways self.grammar.sizes self.table.states self.table.entries.now ways.old }
+        requires reached { Reached self.grammar.sizes self.table.entries.now s }
+        requires below { s < self.table.states }
+        ensures { Walked self.entry.grammar.sizes self.entry.table.states self.entry.table.entries.now s ways.old ways.new }
+    {
+        for x in 1..self.grammar.sizes.symbols {
+            join(ways, x, self.edge(s, x));
         }
+    }
+
+    // The ways into all states, from the path of no edges on.
+    pub(crate) fn find_ways(self) -> [WayIn; 1024]
+        ensures { Entered self.entry.grammar.sizes self.entry.table.states self.entry.table.entries.now result }
+    {
+        // No heap: the ways, and which states have been walked, stand in the frame.
+        let mut ways = [WayIn::Unreached; 1024];
+        let mut walked = [false; 1024];
+        ways[0] = WayIn::Several;
+        // A walk may open more states, so there is no range to go over.
+        while let Some(s) = lowest_open(self.table.states, &ways, &walked) {
+            walked[s as usize] = true;
+            self.walk(&mut ways, s);
+        }
+        ways
     }
 }

@@ -1,14 +1,11 @@
 -- The table's entries, and ENTRY: the lowest bad index.
-use Rattle.std.specs.Prelude.{ℕ, ◌+◌, ◌*◌, ◌%◌, Bool, false, not, cond, ◌&&◌, ◌||◌, List, leb, ltb, eqb, ℤ, pos, length, get_or}
+use Rattle.std.specs.Prelude.{ℕ, ◌+◌, ◌*◌, ◌%◌, Bool, false, not, cond, ◌&&◌, ◌||◌, List, leb, ltb, eqb, ℤ, pos, length, get_or, Option, Some, None}
 use Rattle.number.specs.Number.{sign_of}
 use Rattle.number.specs.declared.Signed.{Signed}
 use Rattle.number.specs.declared.Signed.TheVariants.{Plus, Minus}
 use Rattle.tables.specs.declared.Sizes.{Sizes}
-use Rattle.tables.specs.declared.Lowest.{Lowest}
 use Rattle.tables.specs.declared.Action.{Action}
 use Rattle.tables.specs.declared.Action.TheVariants as action
-use Rattle.tables.specs.declared.Goto.{Goto}
-use Rattle.tables.specs.declared.Goto.TheVariants as goto
 use Rattle.tables.specs.Lists.{lowest}
 
 -- the entry of state s and symbol a: L rows of M entries, and 0 outside
@@ -37,7 +34,7 @@ abbrev pub good_at : Sizes → ℕ → List ℤ → ℕ → Bool
 good_at z states table i = good_entry z states (i % z.symbols) (get_or table i (pos 0))
 
 -- the lowest bad index, row by row
-unfoldable pub lowest_entry : Sizes → ℕ → List ℤ → Lowest
+unfoldable pub lowest_entry : Sizes → ℕ → List ℤ → Option ℕ
 lowest_entry z states table = lowest (good_at z states table) (length table)
 
 -- what an entry of a terminal column says
@@ -46,13 +43,13 @@ action_of (Plus t) = cond (eqb t 0) action.Blank (action.Shift t)
 action_of (Minus r) = cond (eqb r 1) action.Accept (action.Reduce r)
 
 -- what an entry of a nonterminal column says
-abbrev pub goto_of : Signed → Goto
-goto_of (Plus t) = cond (eqb t 0) goto.Blank (goto.To t)
-goto_of (Minus r) = goto.Blank
+abbrev pub goto_of : Signed → Option ℕ
+goto_of (Plus t) = cond (eqb t 0) None (Some t)
+goto_of (Minus r) = None
 
 -- the unsigned table, read
 unfoldable pub action_at : Sizes → List ℤ → ℕ → ℕ → Action
 action_at z table s a = action_of (sign_of (entry_at z table s a))
 
-unfoldable pub goto_at : Sizes → List ℤ → ℕ → ℕ → Goto
+unfoldable pub goto_at : Sizes → List ℤ → ℕ → ℕ → Option ℕ
 goto_at z table s x = goto_of (sign_of (entry_at z table s x))

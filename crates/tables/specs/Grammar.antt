@@ -1,7 +1,6 @@
 -- A grammar, and GRAMMAR: the lowest bad rule.
-use Rattle.std.specs.Prelude.{ℕ, ◌-◌, Bool, true, false, not, ◌&&◌, List, ltb, eqb, length, get_or, take, drop}
+use Rattle.std.specs.Prelude.{ℕ, ◌-◌, Bool, true, false, not, ◌&&◌, List, ltb, eqb, length, get_or, take, drop, Option}
 use Rattle.tables.specs.declared.Sizes.{Sizes}
-use Rattle.tables.specs.declared.Lowest.{Lowest}
 use Rattle.tables.specs.Lists.{all, sum, lowest}
 
 -- T terminals, M symbols, rules 1..G; the left side and the right side of each rule
@@ -44,5 +43,5 @@ unfoldable pub good_rule : Sizes → List ℕ → List ℕ → List ℕ → ℕ 
 good_rule z left lens rights i = good_sides z (eqb i 0) (get_or left i 0) (right_at lens rights i)
 
 -- the lowest bad rule, counted from 0
-unfoldable pub lowest_rule : Sizes → List ℕ → List ℕ → List ℕ → Lowest
+unfoldable pub lowest_rule : Sizes → List ℕ → List ℕ → List ℕ → Option ℕ
 lowest_rule z left lens rights = lowest (good_rule z left lens rights) z.rules

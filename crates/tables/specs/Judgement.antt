@@ -1,29 +1,31 @@
 -- The judgement of grammar, table and signing: numbers 1 to 4, in that order.
-use Rattle.std.specs.Prelude.{ℕ, ◌+◌, cond, List, [], ℤ}
+use Rattle.std.specs.Prelude.{ℕ, ◌+◌, cond, List, [], ℤ, Option, Some, None, Result, Ok, Err}
 use Rattle.tables.specs.declared.Sizes.{Sizes}
-use Rattle.tables.specs.declared.Lowest.{Lowest}
-use Rattle.tables.specs.declared.Lowest.TheVariants.{At, Nowhere}
-use Rattle.tables.specs.declared.Judged.{Judged}
-use Rattle.tables.specs.declared.Judged.TheVariants.{Good, Size, Grammar, Entry, State, Nonterminal}
+use Rattle.tables.specs.declared.Refusal.{Refusal}
+use Rattle.tables.specs.declared.Refusal.TheVariants.{Size, Grammar, Entry, State, Nonterminal}
 use Rattle.tables.specs.Said.{Said, OK, SIZE, GRAMMAR, ENTRY, SIGN-STATE, SIGN-NONTERMINAL}
 use Rattle.tables.specs.Size.{grammar_fits, signing_fits, all_fit}
 use Rattle.tables.specs.Grammar.{lowest_rule}
 use Rattle.tables.specs.Entry.{lowest_entry}
 use Rattle.tables.specs.Signing.{lowest_state, lowest_target}
 
--- the number and the values of each case
-abbrev pub said_of : Judged → Said
-said_of Good = OK []
-said_of Size = SIZE
-said_of (Grammar r) = GRAMMAR r
-said_of (Entry i) = ENTRY i
-said_of (State s) = SIGN-STATE s
-said_of (Nonterminal x) = SIGN-NONTERMINAL x
+-- the number and the values of each refusal
+abbrev pub refused : Refusal → Said
+refused Size = SIZE
+refused (Grammar r) = GRAMMAR r
+refused (Entry i) = ENTRY i
+refused (State s) = SIGN-STATE s
+refused (Nonterminal x) = SIGN-NONTERMINAL x
+
+-- what a judgement says
+abbrev pub said_of : Result (Unit {0}) Refusal → Said
+said_of (Ok u) = OK []
+said_of (Err e) = refused e
 
 -- the refusal that names the lowest bad one, else what comes after
-abbrev pub named : Lowest → (ℕ → Said) → Said → Said
-named (At k) name next = name k
-named Nowhere name next = next
+abbrev pub named : Option ℕ → (ℕ → Said) → Said → Said
+named (Some k) name next = name k
+named None name next = next
 
 -- SIGN
 unfoldable pub sign_judgement : Sizes → ℕ → List ℕ → List ℕ → Said

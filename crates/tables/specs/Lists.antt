@@ -1,7 +1,5 @@
 -- What is said of lists and of numbers below a bound: all, the sum, among, the lowest.
-use Rattle.std.specs.Prelude.{ℕ, zero, suc, ◌+◌, Bool, true, false, not, ◌&&◌, ◌||◌, List, [], ◌∷◌, eqb}
-use Rattle.tables.specs.declared.Lowest.{Lowest}
-use Rattle.tables.specs.declared.Lowest.TheVariants.{At, Nowhere}
+use Rattle.std.specs.Prelude.{ℕ, zero, suc, ◌+◌, Bool, true, false, not, ◌&&◌, ◌||◌, List, [], ◌∷◌, eqb, Option, Some, None}
 
 -- every element passes the test
 unfoldable pub all : (ℕ → Bool) → List ℕ → Bool
@@ -18,12 +16,12 @@ among x [] = false
 among x (y ∷ l) = eqb x y || among x l
 
 -- what was found below n, else n if it is bad
-unfoldable pub or_at : Lowest → Bool → ℕ → Lowest
-or_at (At k) b n = At k
-or_at Nowhere true n = At n
-or_at Nowhere false n = Nowhere
+unfoldable pub or_at : Option ℕ → Bool → ℕ → Option ℕ
+or_at (Some k) b n = Some k
+or_at None true n = Some n
+or_at None false n = None
 
 -- the lowest number below n that is not good
-unfoldable pub lowest : (ℕ → Bool) → ℕ → Lowest
-lowest good zero = Nowhere
+unfoldable pub lowest : (ℕ → Bool) → ℕ → Option ℕ
+lowest good zero = None
 lowest good (suc n) = or_at (lowest good n) (not (good n)) n

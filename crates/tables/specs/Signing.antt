@@ -1,7 +1,6 @@
 -- A signing, and SIGN: the lowest bad state, else nonterminal.
-use Rattle.std.specs.Prelude.{ℕ, ◌-◌, Bool, not, ◌&&◌, ◌||◌, List, leb, ltb, eqb, length, get_or, take}
+use Rattle.std.specs.Prelude.{ℕ, ◌-◌, Bool, not, ◌&&◌, ◌||◌, List, leb, ltb, eqb, length, get_or, take, Option}
 use Rattle.tables.specs.declared.Sizes.{Sizes}
-use Rattle.tables.specs.declared.Lowest.{Lowest}
 use Rattle.tables.specs.Lists.{among, lowest}
 
 -- 0 or a rule for each state, 0 or a state for each nonterminal
@@ -24,9 +23,9 @@ good_target states sgoto i =
     || (not (eqb i 0) && (ltb (get_or sgoto i 0) states && not (among (get_or sgoto i 0) (take i sgoto))))
 
 -- the lowest bad state
-unfoldable pub lowest_state : Sizes → List ℕ → Lowest
+unfoldable pub lowest_state : Sizes → List ℕ → Option ℕ
 lowest_state z srule = lowest (λ s. good_signature z (get_or srule s 0)) (length srule)
 
 -- the lowest bad nonterminal, counted from T
-unfoldable pub lowest_target : ℕ → List ℕ → Lowest
+unfoldable pub lowest_target : ℕ → List ℕ → Option ℕ
 lowest_target states sgoto = lowest (good_target states sgoto) (length sgoto)

@@ -1,2 +1,3 @@
+pub mod Pen
 pub mod Short
 pub mod Cells

@@ -1,3 +1,3 @@
 pub mod Printed
-pub mod Brief
+pub mod Pen
 pub mod Laws

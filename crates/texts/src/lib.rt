@@ -1,6 +1,6 @@
 // The texts that are written: the sheet, and what packsheet prints.
 #![tactic(auto)]
 
+mod pen;
 pub mod print;
-mod put;
 pub mod write;

@@ -1,104 +1,125 @@
 // The writer of the signing sheet. One walk over the signing puts the bytes of the text; on a buffer of no bytes it counts them.
-ghost use Rattle.std.specs.Prelude.{◌≡◌, true, ◌+◌, ◌≤◌, length};
-ghost use Rattle.tables.specs.Size.{signing_fits};
+ghost use Rattle.std.specs.Prelude.{◌≡◌, ◌+◌, ◌≤◌, length};
 ghost use Rattle.sheets.specs.Sheet.{value, line, entry_key, header, entries, joined, sheet_text};
 ghost use Rattle.sheets.specs.Outcome.{write_said, write_outcome, put_or, sheet_write};
+ghost use Rattle.sheets.specs.Meaning.{Signed};
 ghost use Rattle.sheets.specs.Emit.{Room, Emitted};
 
-use crate::put::{put_byte, put_bytes, put_line, put_number};
+use crate::pen::Pen;
 use judgement::judge::judge_signing;
-use sheets::Writing;
-use tables::{Judged, Sizes};
+use sheets::WriteRefusal;
+use tables::{Signing, Sizes};
 
-// Puts `none` for 0, else the number.
-fn put_value(buffer: &mut [u8], at: usize, v: u32) -> usize
-    requires { Room at (value v) }
-    ensures { Emitted buffer.old at (value v) result buffer.new }
-{
-    if v == 0 {
-        put_bytes(buffer, at, b"none")
-    } else {
-        put_number(buffer, at, v)
+// A signing that is written: its sizes fit, and SIGN refuses nothing of it.
+#[derive(Clone, Copy)]
+struct Sheet<'a> {
+    sizes: Sizes,
+    states: u32,
+    signing: Signing<'a>,
+    ghost good: { Signed sizes states signing.rules.now signing.targets.now },
+}
+
+impl<'a> Pen<'a> {
+    ghost use Rattle.texts.specs.Pen.{Puts};
+
+    // Puts `none` for 0, else the number.
+    #[tactic(auto, using(sheets::specs::Laws::Entries::value_steps))]
+    fn value(&mut self, v: u32)
+        requires { Room self.old.at (value v) }
+        ensures { Puts self.old (value v) self.new }
+    {
+        if v == 0 {
+            self.bytes(b"none")
+        } else {
+            self.number(v)
+        }
+    }
+
+    // Puts the line of entry i, whose value is v.
+    #[tactic(auto, using(crate::specs::Laws::Pen::pen_steps), unfolding(sheets::specs::Sheet::line, sheets::specs::Sheet::entry_key))]
+    fn entry(&mut self, key: &[u8], i: u32, v: u32)
+        requires { Room self.old.at (line (entry_key key.now i) (value v)) }
+        ensures { Puts self.old (line (entry_key key.now i) (value v)) self.new }
+    {
+        self.bytes(key);
+        self.number(i);
+        self.byte(b'=');
+        self.value(v);
+        self.byte(b'\n');
+    }
+
+    // Puts a line for each value, from entry `first` on.
+    #[tactic(auto, using(sheets::specs::Laws::Emit::entries_steps))]
+    fn entries(&mut self, key: &[u8], first: u32, values: &[u32])
+        requires numbers { first + length values.now ≤ 65535 }
+        requires room { Room self.old.at (joined (entries key.now first values.now)) }
+        ensures { Puts self.old (joined (entries key.now first values.now)) self.new }
+    {
+        for (i, v) in values.iter().enumerate() {
+            self.entry(key, first + i as u32, *v);
+        }
+    }
+
+    // Puts the header.
+    #[tactic(auto, using(crate::specs::Laws::Pen::pen_steps), unfolding(sheets::specs::Sheet::joined, sheets::specs::Sheet::header))]
+    fn header(&mut self, z: Sizes, states: u32)
+        requires { Room self.old.at (joined (header z states)) }
+        ensures { Puts self.old (joined (header z states)) self.new }
+    {
+        self.line(b"sheet", 1);
+        self.line(b"terminals", z.terminals);
+        self.line(b"symbols", z.symbols);
+        self.line(b"rules", z.rules);
+        self.line(b"states", states);
+    }
+
+    // Puts the text of a signing.
+    #[tactic(auto, using(crate::specs::Laws::Pen::sheet_steps))]
+    fn sheet(&mut self, sheet: Sheet)
+        requires { Room self.old.at (sheet_text sheet.sizes sheet.states sheet.signing.rules.now sheet.signing.targets.now) }
+        ensures { Puts self.old (sheet_text sheet.entry.sizes sheet.entry.states sheet.entry.signing.rules.now sheet.entry.signing.targets.now) self.new }
+    {
+        self.header(sheet.sizes, sheet.states);
+        self.entries(b"state.", 0, sheet.signing.rules);
+        let others = &sheet.signing.targets[1..];
+        self.entries(b"goto.", sheet.sizes.terminals + 1, others);
     }
 }
 
-// Puts the line of entry i, whose value is v.
-fn put_entry(buffer: &mut [u8], at: usize, key: &[u8], i: u32, v: u32) -> usize
-    requires { Room at (line (entry_key key.now i) (value v)) }
-    ensures { Emitted buffer.old at (line (entry_key key.now i) (value v)) result buffer.new }
+// Puts the text of a signing at the front of the buffer, and gives its length; what would fall outside is left out.
+fn put_text(buffer: &mut [u8], sheet: Sheet) -> usize
+    ensures { Emitted buffer.old 0 (sheet_text sheet.entry.sizes sheet.entry.states sheet.entry.signing.rules.now sheet.entry.signing.targets.now) result buffer.new }
 {
-    let number = put_bytes(buffer, at, key);
-    let sign = put_number(buffer, number, i);
-    let value = put_byte(buffer, sign, b'=');
-    let end = put_value(buffer, value, v);
-    put_byte(buffer, end, b'\n')
-}
-
-// Puts a line for each value, from entry `first` on.
-fn put_entries(buffer: &mut [u8], at: usize, key: &[u8], first: u32, values: &[u32]) -> usize
-    requires numbers { first + length values.now ≤ 65535 }
-    requires room { Room at (joined (entries key.now first values.now)) }
-    ensures { Emitted buffer.old at (joined (entries key.now first values.now)) result buffer.new }
-{
-    let mut place = at;
-    let mut i: u32 = 0;
-    while (i as usize) < values.len() {
-        place = put_entry(buffer, place, key, first + i, values[i as usize]);
-        i += 1;
-    }
-    place
-}
-
-// Puts the header.
-fn put_header(buffer: &mut [u8], z: Sizes, states: u32) -> usize
-    requires { Room 0 (joined (header z states)) }
-    ensures { Emitted buffer.old 0 (joined (header z states)) result buffer.new }
-{
-    let terminals = put_line(buffer, 0, b"sheet", 1);
-    let symbols = put_line(buffer, terminals, b"terminals", z.terminals);
-    let rules = put_line(buffer, symbols, b"symbols", z.symbols);
-    let last = put_line(buffer, rules, b"rules", z.rules);
-    put_line(buffer, last, b"states", states)
-}
-
-// Puts the text of a signing.
-fn put_text(buffer: &mut [u8], z: Sizes, states: u32, srule: &[u32], sgoto: &[u32]) -> usize
-    requires fits { signing_fits z states srule.now sgoto.now ≡ true }
-    requires room { Room 0 (sheet_text z states srule.now sgoto.now) }
-    ensures { Emitted buffer.old 0 (sheet_text z states srule.now sgoto.now) result buffer.new }
-{
-    let rules = put_header(buffer, z, states);
-    let targets = put_entries(buffer, rules, b"state.", 0, srule);
-    put_entries(buffer, targets, b"goto.", z.terminals + 1, &sgoto[1..])
+    let mut pen = Pen { buffer, at: 0 };
+    pen.sheet(sheet);
+    pen.at
 }
 
 // Writes the text of a signing, if it is not longer than the buffer.
-fn write_text(z: Sizes, states: u32, srule: &[u32], sgoto: &[u32], buffer: &mut [u8]) -> Writing
-    requires fits { signing_fits z states srule.now sgoto.now ≡ true }
-    requires room { Room 0 (sheet_text z states srule.now sgoto.now) }
-    ensures { write_outcome (write_said result) buffer.new ≡ put_or (sheet_text z states srule.now sgoto.now) buffer.old }
+fn write_text(sheet: Sheet, buffer: &mut [u8]) -> Result<usize, WriteRefusal>
+    ensures { write_outcome (write_said result) buffer.new ≡ put_or (sheet_text sheet.entry.sizes sheet.entry.states sheet.entry.signing.rules.now sheet.entry.signing.targets.now) buffer.old }
 {
-    let mut nowhere = [0u8; 0];
-    let size = put_text(&mut nowhere, z, states, srule, sgoto);
+    let size = put_text(&mut [], sheet);
     if buffer.len() < size {
-        return Writing::Text;
+        return Err(WriteRefusal::Text);
     }
-    Writing::Written(put_text(buffer, z, states, srule, sgoto))
+    Ok(put_text(buffer, sheet))
 }
 
 // Writes the sheet of a signing at the front of the buffer, whose other bytes are unchanged; SIZE, SIGN and TEXT leave all of it unchanged.
 pub fn write_sheet(
     z: Sizes,
     states: u32,
-    srule: &[u32],
-    sgoto: &[u32],
+    signing: Signing,
     buffer: &mut [u8],
-) -> Writing
-    ensures { write_outcome (write_said result) buffer.new ≡ sheet_write z states srule.now sgoto.now buffer.old }
+) -> Result<usize, WriteRefusal>
+    ensures { write_outcome (write_said result) buffer.new ≡ sheet_write z states signing.entry.rules.now signing.entry.targets.now buffer.old }
 {
-    let judged = judge_signing(z, states, srule, sgoto);
-    let Judged::Good = judged else {
-        return Writing::Refused(judged);
+    judge_signing(z, states, signing)?;
+    let sheet = Sheet {
+        sizes: z,
+        states,
+        signing,
     };
-    write_text(z, states, srule, sgoto, buffer)
+    write_text(sheet, buffer)
 }

@@ -4,32 +4,41 @@ ghost use Rattle.sheets.specs.Lines.{entry_at};
 ghost use Rattle.sheets.specs.Walk.{key_of};
 
 use sheet_lines::entry::keyed_at;
-use sheets::{Key, SheetReader, Value};
+use sheets::{Key, Value};
 
-// A reader at the first byte of the text.
-pub fn new<'a>(text: &'a [u8]) -> SheetReader<'a>
-    ensures { (result.text ≡ text.entry) × (result.at ≡ 0) }
-{
-    SheetReader { text, at: 0 }
+// A sheet reader: the lent text and its place in it.
+#[derive(Clone, Copy)]
+pub struct SheetReader<'a> {
+    pub text: &'a [u8],
+    pub at: usize,
 }
 
-// The reader's place in its text.
-pub fn place<'a>(r: SheetReader<'a>) -> usize
-    ensures { result ≡ r.entry.at }
-{
-    r.at
-}
+impl<'a> SheetReader<'a> {
+    // A reader at the first byte of the text.
+    pub fn new(text: &'a [u8]) -> SheetReader<'a>
+        ensures { (result.text ≡ text.entry) × (result.at ≡ 0) }
+    {
+        SheetReader { text, at: 0 }
+    }
 
-// The reader at another place of its text.
-pub fn moved<'a>(r: SheetReader<'a>, at: usize) -> SheetReader<'a>
-    ensures { (result.text ≡ r.entry.text) × (result.at ≡ at) }
-{
-    SheetReader { text: r.text, at }
-}
+    // The reader's place in its text.
+    pub fn place(self) -> usize
+        ensures { result ≡ self.entry.at }
+    {
+        self.at
+    }
 
-// The value on the line of this key at the reader's place, and the place of the next line.
-pub fn value<'a>(r: SheetReader<'a>, key: Key) -> Value
-    ensures { result ≡ entry_at r.entry.text.now r.entry.at (key_of key) }
-{
-    keyed_at(r.text, r.at, key)
+    // The reader at another place of its text.
+    pub fn moved(self, at: usize) -> SheetReader<'a>
+        ensures { (result.text ≡ self.entry.text) × (result.at ≡ at) }
+    {
+        SheetReader { at, ..self }
+    }
+
+    // The value on the line of this key at the reader's place, and the place of the next line.
+    pub fn value(self, key: Key) -> Option<Value>
+        ensures { result ≡ entry_at self.entry.text.now self.entry.at (key_of key) }
+    {
+        keyed_at(self.text, self.at, key)
+    }
 }

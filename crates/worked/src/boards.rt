@@ -8,27 +8,22 @@ pub(crate) fn signing(s: usize, r: u32) -> Board
     requires { s < 7 }
 {
     let mut made = board::small();
-    let mut srule = made.srule;
-    srule[s] = r;
-    made.srule = srule;
+    made.srule[s] = r;
     made
 }
 
 // The same board with the entry for state 3 and b blanked.
 pub(crate) fn blanked(b: Board) -> Board {
     let mut made = b;
-    let mut table = b.table;
-    table[20] = 0;
-    made.table = table;
+    made.table[20] = 0;
     made
 }
 
 // The same board with nothing signed.
 pub(crate) fn unsigned(b: Board) -> Board {
-    let mut made = b;
-    let srule = [0u32; 7];
-    let sgoto = [0u32; 3];
-    made.srule = srule;
-    made.sgoto = sgoto;
-    made
+    Board {
+        srule: [0; 7],
+        sgoto: [0; 3],
+        ..b
+    }
 }

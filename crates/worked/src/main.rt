@@ -5,7 +5,6 @@ mod boards;
 mod checks;
 mod packs;
 mod parses;
-mod said;
 mod say;
 
 use std::io;

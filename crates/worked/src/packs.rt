@@ -1,63 +1,39 @@
 // P9: the small board packed.
-use crate::said::said;
-use crate::say;
-use answers::packed::packed;
-use board::Board;
-use packing::Packing;
+use crate::say::{list, said};
 use packing::pack::pack;
 use std::io;
 use std::io::Write;
 
-// Packs a board into the lent cells.
-pub(crate) fn pack_board(
-    b: Board,
-    base: &mut [i32],
-    check: &mut [i32],
-    marks: &mut [u32],
-    place: &mut [u32],
-) -> Packing {
-    let left = b.left;
-    let lens = b.lens;
-    let rights = b.rights;
-    let table = b.table;
-    let srule = b.srule;
-    let sgoto = b.sgoto;
-    pack(
-        b.sizes, b.states, &left, &lens, &rights, &table, &srule, &sgoto, base, check, marks, place,
-    )
-}
-
 // What packing says of the small board and leaves in the lent arrays.
 fn line<W: Write>(
     out: &mut W,
-    name: &[u8],
+    name: &str,
     base: &mut [i32],
     check: &mut [i32],
     marks: &mut [u32],
 ) -> io::Result<()> {
-    let mut place = [7u32; 7];
-    let p = pack_board(board::small(), base, check, marks, &mut place);
-    say::text(out, name)?;
-    said(out, packed(p))?;
-    say::text(out, b" base")?;
-    say::cells(out, base)?;
-    say::text(out, b" check")?;
-    say::cells(out, check)?;
-    say::text(out, b" marks")?;
-    say::list(out, marks)?;
-    say::text(out, b" place")?;
-    say::list(out, &place)?;
-    say::text(out, b"\n")
+    let b = board::small();
+    let mut place = [7; 7];
+    let p = pack(
+        b.grammar(),
+        b.table(),
+        b.signing(),
+        base,
+        check,
+        marks,
+        &mut place,
+    );
+    write!(out, "{name}")?;
+    said(out, p.into())?;
+    list(out, " base", base)?;
+    list(out, " check", check)?;
+    list(out, " marks", marks)?;
+    list(out, " place", &place)?;
+    writeln!(out)
 }
 
 // 20 cells are too few, 21 are enough.
 pub(crate) fn p9<W: Write>(out: &mut W) -> io::Result<()> {
-    let mut base = [7i32; 20];
-    let mut check = [7i32; 20];
-    let mut marks = [7u32; 20];
-    line(out, b"P9a", &mut base, &mut check, &mut marks)?;
-    let mut base = [7i32; 21];
-    let mut check = [7i32; 21];
-    let mut marks = [7u32; 21];
-    line(out, b"P9b", &mut base, &mut check, &mut marks)
+    line(out, "P9a", &mut [7; 20], &mut [7; 20], &mut [7; 20])?;
+    line(out, "P9b", &mut [7; 21], &mut [7; 21], &mut [7; 21])
 }

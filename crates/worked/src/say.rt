@@ -1,38 +1,47 @@
-// A line of output, word by word.
-use number::{Signed, at_i32};
+// A line of output, part by part. How a case is printed is this program's alone, so an answer has no `Display` of its own.
+use answers::{Answer, ParseAnswer};
+use std::fmt::Display;
 use std::io;
 use std::io::Write;
 
-// Bytes as they stand.
-pub(crate) fn text<W: Write>(out: &mut W, bytes: &[u8]) -> io::Result<()> {
-    out.write_all(bytes)
-}
-
-// A number, after a space.
-pub(crate) fn value<W: Write>(out: &mut W, n: u64) -> io::Result<()> {
-    write!(out, " {n}")
-}
-
-// A number with its sign, after a space.
-fn signed<W: Write>(out: &mut W, v: Signed) -> io::Result<()> {
-    match v {
-        Signed::Plus(n) => write!(out, " {n}"),
-        Signed::Minus(n) => write!(out, " -{n}"),
+// The number of an answer and as many values as it has, each after a space.
+pub(crate) fn said<W: Write>(out: &mut W, a: Answer) -> io::Result<()> {
+    write!(out, " {}", a.number)?;
+    if 1 <= a.count {
+        write!(out, " {}", a.first)?;
     }
-}
-
-// The numbers of a list.
-pub(crate) fn list<W: Write>(out: &mut W, l: &[u32]) -> io::Result<()> {
-    for n in l {
-        value(out, *n as u64)?;
+    if 2 <= a.count {
+        write!(out, " {}", a.second)?;
     }
     Ok(())
 }
 
-// The numbers of Base or Check.
-pub(crate) fn cells<W: Write>(out: &mut W, c: &[i32]) -> io::Result<()> {
-    for i in 0..c.len() {
-        signed(out, at_i32(c, i))?;
+// What a parse says, and its count of moves.
+pub(crate) fn parsed<W: Write>(out: &mut W, a: ParseAnswer) -> io::Result<()> {
+    let ParseAnswer {
+        number,
+        count,
+        first,
+        second,
+        moves,
+    } = a;
+    said(
+        out,
+        Answer {
+            number,
+            count,
+            first,
+            second,
+        },
+    )?;
+    write!(out, " moves {moves}")
+}
+
+// A name and the numbers of a list.
+pub(crate) fn list<W: Write, T: Display>(out: &mut W, name: &str, numbers: &[T]) -> io::Result<()> {
+    write!(out, "{name}")?;
+    for n in numbers {
+        write!(out, " {n}")?;
     }
     Ok(())
 }

@@ -1,6 +1,6 @@
 -- What the cells are where SIZE is not said. Assumes nothing.
 use Rattle.std.specs.Prelude.{◌≡◌, true, List, ◌≤◌, leb, eqb, ℤ, length}
-use borrow.Author.Tests.{leb-true, eqb-true, le-leb, eq-eqb}
+use Rattle.std.proofs.Common.{leb-true, eqb-true, le-leb, eq-eqb}
 use Rattle.tables.specs.Laws.Tests.{and-true}
 use Rattle.cells.specs.Size.{cells_fit}
 

@@ -1,22 +1,21 @@
 -- What an entry point says is what its rows say, and nothing else: a read, and a parse with cells. Assumes nothing.
-use Rattle.std.specs.Prelude.{◌≡◌, refl, ◌↔◌, ◌⊎◌, Bool, true, false, List, [], ℕ, ◌≤◌, ℤ}
-use Rattle.std.proofs.Common.{inl, inr, arith}
-use borrow.Author.Tests.{ne_eqb}
+use Rattle.std.specs.Prelude.{◌≡◌, refl, ◌↔◌, ◌⊎◌, Bool, true, false, List, [], ℕ, ◌≤◌, ℤ, Option, Some, None}
+use Rattle.std.proofs.Common.{inl, inr, arith, ne_eqb}
 use Rattle.tables.specs.declared.Sizes.{Sizes}
-use Rattle.tables.specs.declared.Lowest.{Lowest}
-use Rattle.tables.specs.declared.Lowest.TheVariants.{At, Nowhere}
+use Rattle.std.specs.Prelude.{Option}
+use Rattle.std.specs.Prelude.{Some, None}
 use Rattle.tables.specs.Said.{Said, OK}
 use Rattle.tables.specs.Lists.{lowest}
 use Rattle.tables.specs.Size.{grammar_fits}
 use Rattle.tables.specs.Grammar.{grammar, good_rule, lowest_rule}
 use Rattle.tables.specs.Judgement.{grammar_judgement}
 use Rattle.tables.specs.Laws.Lowest.{at_least, nowhere-passed, lowest-at, lowest-nowhere}
-use Rattle.cells.specs.declared.Way.TheVariants.{Direct, Pointer}
-use Rattle.cells.specs.declared.Read.{Read}
-use Rattle.cells.specs.declared.Read.TheVariants.{Shift, Reduce, Accept, Blank, Malformed}
+use Rattle.reads.specs.declared.Way.TheVariants.{Direct, Pointer}
+use Rattle.reads.specs.declared.Read.{Read}
+use Rattle.reads.specs.declared.Read.TheVariants.{Shift, Reduce, Accept, Blank}
 use Rattle.cells.specs.Asked.{read_fits, read_said}
 use Rattle.machine.specs.Outcome.{Outcome, job, judged_then}
-use Rattle.parser.specs.Reads.{cell_reads}
+use Rattle.cells.specs.Reads.{cell_reads}
 use Rattle.parser.specs.Outcome.{packed_fits, packed_parse}
 use Rattle.demands.specs.Says.{SaysGrammar, SaysParse, answer, SaysRead}
 use Rattle.demands.specs.Laws.Rows.{exactly}
@@ -37,10 +36,10 @@ module _ (z : Sizes) (left lens rights : List ℕ) where
   grammar-some : (s : Said) × SaysGrammar z left lens rights s
   grammar-some = by (grammar_fits z left lens rights) refl (lowest rule_at z.rules) refl
     where
-      by : (b : Bool) → grammar_fits z left lens rights ≡ b → (l : Lowest) → lowest rule_at z.rules ≡ l → (s : Said) × SaysGrammar z left lens rights s
+      by : (b : Bool) → grammar_fits z left lens rights ≡ b → (l : Option ℕ) → lowest rule_at z.rules ≡ l → (s : Said) × SaysGrammar z left lens rights s
       by false f l e = (_, SaysGrammar.size f)
-      by true f (At i) e = (_, SaysGrammar.rule i f (at_least rule_at z.rules i e))
-      by true f Nowhere e = (_, SaysGrammar.good f (nowhere-passed rule_at z.rules e))
+      by true f (Some i) e = (_, SaysGrammar.rule i f (at_least rule_at z.rules i e))
+      by true f None e = (_, SaysGrammar.good f (nowhere-passed rule_at z.rules e))
 
   pub grammar-exactly : (s : Said) → (grammar_judgement z left lens rights ≡ s) ↔ SaysGrammar z left lens rights s
   grammar-exactly = exactly (SaysGrammar z left lens rights) grammar-only grammar-some
@@ -96,14 +95,14 @@ module _ (z : Sizes) (base check : List ℤ) (x a : ℕ) where
   read_some : (s : Said) × SaysRead z base check x a s
   read_some = by (read_fits z base check a) refl (answer z base check x a) refl
     where
-      by : (b : Bool) → read_fits z base check a ≡ b → (r : Read) → answer z base check x a ≡ r → (s : Said) × SaysRead z base check x a s
+      by : (b : Bool) → read_fits z base check a ≡ b → (r : Option Read) → answer z base check x a ≡ r → (s : Said) × SaysRead z base check x a s
       by false f r e = (_, SaysRead.size f)
-      by true f Malformed e = (_, SaysRead.bad-cell f e)
-      by true f (Shift (Direct y)) e = (_, SaysRead.direct y f e)
-      by true f (Shift (Pointer y)) e = (_, SaysRead.pointer y f e)
-      by true f (Reduce r) e = (_, SaysRead.reduce r f e)
-      by true f Accept e = (_, SaysRead.accept f e)
-      by true f Blank e = (_, SaysRead.blank f e)
+      by true f None e = (_, SaysRead.bad-cell f e)
+      by true f (Some (Shift (Direct y))) e = (_, SaysRead.direct y f e)
+      by true f (Some (Shift (Pointer y))) e = (_, SaysRead.pointer y f e)
+      by true f (Some (Reduce r)) e = (_, SaysRead.reduce r f e)
+      by true f (Some Accept) e = (_, SaysRead.accept f e)
+      by true f (Some Blank) e = (_, SaysRead.blank f e)
 
   pub read-exactly : (s : Said) → (read_said z base check x a ≡ s) ↔ SaysRead z base check x a s
   read-exactly = exactly (SaysRead z base check x a) read_only read_some

@@ -1,9 +1,8 @@
 -- What an entry point says that begins with a judgement of grammar, table and signing is what its rows say, and nothing else: pack, the plain parse, the check. Assumes nothing.
 use Rattle.std.specs.Prelude.{◌≡◌, refl, ◌↔◌, ◌⊎◌, Bool, true, false, List, [], ◌∷◌, ℕ, ◌≤◌, ℤ, length}
-use Rattle.std.proofs.Common.{sym, ◌∙◌, inl, inr, arith}
+use Rattle.std.proofs.Common.{sym, ◌∙◌, inl, inr, arith, ne_eqb}
 use Rattle.std.proofs.Math.Path.{ap}
 use Rattle.std.proofs.Math.Option.{Option, none, some}
-use borrow.Author.Tests.{ne_eqb}
 use Rattle.tables.specs.declared.Sizes.{Sizes}
 use Rattle.tables.specs.Said.{Said, OK}
 use Rattle.tables.specs.Grammar.{grammar}

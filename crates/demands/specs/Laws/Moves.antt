@@ -1,13 +1,9 @@
 -- A move says what its rows say, and nothing else. Assumes nothing.
-use Rattle.std.specs.Prelude.{◌≡◌, refl, ◌↔◌, Bool, true, false, ℕ, suc, ◌<◌, ltb}
-use mathlib.Core.List.{List, [], ◌∷◌}
-use Rattle.std.proofs.Common.{arith, length-drop}
+use Rattle.std.specs.Prelude.{◌≡◌, refl, ◌↔◌, Bool, true, false, ℕ, suc, ◌<◌, ltb, Option, Some, None, List, [], ◌∷◌}
+use Rattle.std.proofs.Common.{arith, length-drop, lt-ltb, le-ltb, ltb-true, ltb-false}
 use Rattle.std.proofs.Math.ListN.{length, drop, drop_of_length-le}
-use borrow.Author.Tests.{lt-ltb, le-ltb, ltb-true, ltb-false}
 use Rattle.tables.specs.Grammar.{Grammar}
-use Rattle.machine.specs.declared.Current.{Current}
-use Rattle.machine.specs.declared.Current.TheVariants.{Is, Wrong}
-use Rattle.machine.specs.Reads.{Act, shift, reduce, accept, blank, malformed, Go, goes, nowhere, broken, Reads}
+use Rattle.reads.specs.Reads.{Act, shift, reduce, accept, blank, malformed, Go, goes, nowhere, broken, Reads}
 use Rattle.machine.specs.Machine.{Job, Config, Step, current, pushed, written, gone, popped, acted, looked, move}
 use Rattle.demands.specs.Moves.{Reading, Uncovers, SaysMove}
 use Rattle.demands.specs.Laws.Rows.{exactly}
@@ -48,7 +44,7 @@ module _ (g : Grammar) (m : Reads) (j : Job) (c : Config) where
         length-nil = rw d
     uncovered-some (p ∷ ps) d = goto-some p ps d (m.go p (g.left r)) refl (ltb (length (p ∷ ps)) j.stack) refl
 
-  act-some : (a : ℕ) → current g.T j.tokens c.place ≡ Is a → (x : Act) → m.act c.state a ≡ x
+  act-some : (a : ℕ) → current g.T j.tokens c.place ≡ Some a → (x : Act) → m.act c.state a ≡ x
       → (b : Bool) → ltb (suc (length c.below)) j.stack ≡ b → (d : Bool) → ltb (length c.made) j.list ≡ d → (s : Step) × Says s
   act-some a i malformed e b p d q = (_, SaysMove.bad-cell a (i, e))
   act-some a i blank e b p d q = (_, SaysMove.syntax a (i, e))
@@ -62,9 +58,9 @@ module _ (g : Grammar) (m : Reads) (j : Job) (c : Config) where
   move_some : (s : Step) × Says s
   move_some = by (current g.T j.tokens c.place) refl
     where
-      by : (x : Current) → current g.T j.tokens c.place ≡ x → (s : Step) × Says s
-      by Wrong e = (_, SaysMove.token e)
-      by (Is a) e = act-some a e (m.act c.state a) refl (ltb (suc (length c.below)) j.stack) refl (ltb (length c.made) j.list) refl
+      by : (x : Option ℕ) → current g.T j.tokens c.place ≡ x → (s : Step) × Says s
+      by None e = (_, SaysMove.token e)
+      by (Some a) e = act-some a e (m.act c.state a) refl (ltb (suc (length c.below)) j.stack) refl (ltb (length c.made) j.list) refl
 
   pub move-exactly : (s : Step) → (move g m j c ≡ s) ↔ Says s
   move-exactly = exactly Says move-only move_some

@@ -1,5 +1,5 @@
 -- The numbers that each entry point may say. Assumes nothing.
-use Rattle.std.specs.Prelude.{◌≡◌, refl, ◌≢◌, ◌⊎◌, List, ℕ, ◌≤◌, ℤ}
+use Rattle.std.specs.Prelude.{◌≡◌, refl, ◌≢◌, ◌⊎◌, List, ℕ, ◌≤◌, ℤ, Ok, Err}
 use Rattle.std.proofs.Math.Logic.{inl}
 use Rattle.std.proofs.Common.{inr, ⊎_elim, arith}
 use Rattle.tables.specs.declared.Sizes.{Sizes}
@@ -7,8 +7,8 @@ use Rattle.tables.specs.Said.{Said}
 use Rattle.tables.specs.Judgement.{grammar_judgement}
 use Rattle.tables.specs.Laws.Numbers.{judged-low}
 use Rattle.cells.specs.Asked.{read_said}
-use Rattle.machine.specs.declared.Answer.{Answer}
-use Rattle.machine.specs.declared.Answer.TheVariants.{Accepted, Token, Syntax, Underflow, NoGoto, Stack, Output, Moves, BadCell}
+use Rattle.machine.specs.Types.{Answer}
+use Rattle.machine.specs.declared.Stop.TheVariants.{Token, Syntax, Underflow, NoGoto, Stack, Output, Moves, BadCell}
 use Rattle.machine.specs.Machine as machine
 use Rattle.machine.specs.Outcome.{answer_of, Outcome, unchanged, leaves, plain_parse}
 use Rattle.machine.specs.Laws.Outcome.{plain-never-badcell}
@@ -20,15 +20,15 @@ use Rattle.demands.specs.Laws.Judged.{plain-exactly, check-exactly}
 
 -- a run ends with 0 or 7 to 14
 ended-number : (a : Answer) (moves : ℕ) → ((answer_of a moves).number ≡ 0) ⊎ ((7 ≤ (answer_of a moves).number) × ((answer_of a moves).number ≤ 14))
-ended-number (Accepted n) moves = inl refl
-ended-number (Token i) moves = inr (omega arith, omega arith)
-ended-number (Syntax i) moves = inr (omega arith, omega arith)
-ended-number (Underflow i r) moves = inr (omega arith, omega arith)
-ended-number (NoGoto i r) moves = inr (omega arith, omega arith)
-ended-number (Stack i) moves = inr (omega arith, omega arith)
-ended-number (Output i) moves = inr (omega arith, omega arith)
-ended-number (Moves i) moves = inr (omega arith, omega arith)
-ended-number (BadCell x) moves = inr (omega arith, omega arith)
+ended-number (Ok n) moves = inl refl
+ended-number (Err (Token i)) moves = inr (omega arith, omega arith)
+ended-number (Err (Syntax i)) moves = inr (omega arith, omega arith)
+ended-number (Err (Underflow i r)) moves = inr (omega arith, omega arith)
+ended-number (Err (NoGoto i r)) moves = inr (omega arith, omega arith)
+ended-number (Err (Stack i)) moves = inr (omega arith, omega arith)
+ended-number (Err (Output i)) moves = inr (omega arith, omega arith)
+ended-number (Err (Moves i)) moves = inr (omega arith, omega arith)
+ended-number (Err (BadCell x)) moves = inr (omega arith, omega arith)
 
 -- a number 0..n that a parse refuses with, or one of a run
 abbrev Parsed : ℕ → Outcome → Type 0

@@ -20,7 +20,7 @@ use Rattle.machine.specs.Reads.{plain_reads}
 use Rattle.machine.specs.Machine.{Job, start}
 use Rattle.machine.specs.Carry.{carry_step}
 use Rattle.machine.specs.Steps.{steps}
-use Rattle.parser.specs.Reads.{cell_reads}
+use Rattle.cells.specs.Reads.{cell_reads}
 use Rattle.parser.specs.Theorems as parser
 use Rattle.demands.specs.Says.{SaysPack}
 use Rattle.demands.specs.Laws.Judged.{pack-exactly}

@@ -1,11 +1,10 @@
 -- A parse ends as its moves make it end. Assumes nothing.
 use Rattle.std.proofs.Math.Path.{◌≡◌, refl}
-use Rattle.std.specs.Prelude.{◌↔◌, Bool, true, false, ltb}
-use Prim.Native.Nat.{ℕ, zero, suc, ◌≤◌, ◌<◌}
+use Rattle.std.specs.Prelude.{◌↔◌, Bool, true, false, ltb, Err, ℕ, zero, suc, ◌≤◌, ◌<◌}
 use Rattle.std.proofs.Common.{arith, ltb-true, ltb-false, lt-ltb}
 use Rattle.tables.specs.Grammar.{Grammar}
-use Rattle.machine.specs.declared.Answer.TheVariants.{Moves}
-use Rattle.machine.specs.Reads.{Reads}
+use Rattle.machine.specs.declared.Stop.TheVariants.{Moves}
+use Rattle.reads.specs.Reads.{Reads}
 use Rattle.machine.specs.Machine.{Job, Config, Result, Step, on, halt, refused, move, then, run, start, begun, parse}
 use Rattle.machine.specs.Steps.{and_on, steps}
 use Rattle.demands.specs.Moves.{RunEnds, no_stack, halted, limited}
@@ -15,7 +14,7 @@ module _ (g : Grammar) (m : Reads) (j : Job) where
   -- a run from c with n moves left ends so
   data Ends (n : ℕ) (c : Config) : Result → Type 0 where
     by_move : {r : Result} (k : ℕ) (d : Config) → k < n → steps g m j k c ≡ on d → move g m j d ≡ halt r → Ends n c r
-    by-limit : (d : Config) → steps g m j n c ≡ on d → Ends n c (refused (Moves d.place) d)
+    by-limit : (d : Config) → steps g m j n c ≡ on d → Ends n c (refused (Err (Moves d.place)) d)
 
   run_ends : (n : ℕ) (c : Config) → Ends n c (run g m j n c)
   unfolding run steps and_on then
@@ -41,13 +40,13 @@ module _ (g : Grammar) (m : Reads) (j : Job) where
       by (on b) s e next = next b e q
       by (halt x) s e next = let y : ◌≡◌ {A = ℕ} 0 1 = cc in absurd (omega arith)
 
-  limit-run : (n : ℕ) (c d : Config) → steps g m j n c ≡ on d → run g m j n c ≡ refused (Moves d.place) d
+  limit-run : (n : ℕ) (c d : Config) → steps g m j n c ≡ on d → run g m j n c ≡ refused (Err (Moves d.place)) d
   unfolding run steps and_on then
   limit-run zero c d p = let e : c ≡ d = cc in rw e
   limit-run (suc n) c d p = by (move g m j c) p (λ b. limit-run n b d)
     where
-      by : (s : Step) → and_on (steps g m j n) s ≡ on d → ((b : Config) → steps g m j n b ≡ on d → run g m j n b ≡ refused (Moves d.place) d)
-          → then (run g m j n) s ≡ refused (Moves d.place) d
+      by : (s : Step) → and_on (steps g m j n) s ≡ on d → ((b : Config) → steps g m j n b ≡ on d → run g m j n b ≡ refused (Err (Moves d.place)) d)
+          → then (run g m j n) s ≡ refused (Err (Moves d.place)) d
       by (on b) e next = next b e
       by (halt x) e next = let y : ◌≡◌ {A = ℕ} 0 1 = cc in absurd (omega arith)
 

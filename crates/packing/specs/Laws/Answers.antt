@@ -1,7 +1,7 @@
 -- What packing answers for a table and a signing that are not refused. Assumes nothing.
 use Rattle.std.specs.Prelude.{◌≡◌, ℕ, ◌+◌, ◌*◌, ◌≤◌, List, ℤ}
-use Rattle.std.proofs.Math.Option.{some}
 use Rattle.std.proofs.Common.{arith}
+use Rattle.std.proofs.Math.Option.{some}
 use Rattle.tables.specs.declared.Sizes.{Sizes}
 use Rattle.packing.specs.Job.{job_of}
 use Rattle.packing.specs.Bench.{placement_b}

@@ -1,16 +1,13 @@
 -- The job's filled table is the table's: what a read says of the one it carries of the other. Assumes nothing.
-use Rattle.std.specs.Prelude.{◌≡◌, Bool, true, false, List, eqb, ℤ, pos, negsuc, get_or}
-use Rattle.std.proofs.Math.Path.{ap}
-use Rattle.std.proofs.Common.{◌∙◌, arith, ne_eqb}
-use Prim.Native.Nat.{ℕ, zero, suc, ◌-◌, ◌≤◌, ◌<◌}
-use Rattle.std.proofs.Math.Bool.{cond}
+use Rattle.std.specs.Prelude.{◌≡◌, Bool, true, false, List, eqb, ℤ, pos, negsuc, get_or, ℕ, zero, suc, ◌-◌, ◌≤◌, ◌<◌, cond, Option, Some}
+use Rattle.std.proofs.Common.{ap, ◌∙◌, arith, ne_eqb}
 use Rattle.std.proofs.Math.Option.{some}
 use Rattle.number.specs.Number.{sign_of}
 use Rattle.tables.specs.declared.Sizes.{Sizes}
 use Rattle.tables.specs.Entry.{entry_at, action_of, goto_of, action_at, goto_at}
 use Rattle.tables.specs.Filled.{signed_action, signed_goto, filled_action, filled_goto, filled_action_at, filled_goto_at}
-use Rattle.cells.specs.declared.Read.{Read}
-use Rattle.cells.specs.declared.Read.TheVariants.{Reduce, Accept}
+use Rattle.reads.specs.declared.Read.{Read}
+use Rattle.reads.specs.declared.Read.TheVariants.{Reduce, Accept}
 use Rattle.cells.specs.Read.{Kind, action, goto, cells_of, read_cell}
 use Rattle.tables.specs.declared.Action.TheVariants as act
 use Rattle.packing.specs.Job.{Job, view, job_of}
@@ -27,20 +24,20 @@ use Rattle.packing.specs.Laws.Valid.{rule-at, job-wf}
 
 -- ---- a terminal's entry e, with q signed
 
-module _ (places : List ℕ) (r : Read) where
+module _ (places : List ℕ) (r : Option Read) where
   carries-sign : (q : ℕ) → (1 ≤ q → 2 ≤ q) → Says (λ t. get_or places t 0) r (rule_sign q) → Carries places r (signed_action q)
   unfolding signed_action
   carries-sign zero two h = h
   carries-sign (suc q) two h =
       let l = two (omega arith) in
-      rw (ne_eqb (suc q) 0 (omega arith)) (h ∙ ap (λ (b : Bool). cond b Accept (Reduce (suc q))) (ne_eqb (suc q) 1 (omega arith)))
+      rw (ne_eqb (suc q) 0 (omega arith)) (h ∙ ap (λ (b : Bool). cond b (Some Accept) (Some (Reduce (suc q)))) (ne_eqb (suc q) 1 (omega arith)))
 
   carries : (e : ℤ) (q : ℕ) → (1 ≤ q → 2 ≤ q) → Says (λ t. get_or places t 0) r (or_else (view e) (rule_sign q)) → Carries places r (filled_action q (action_of (sign_of e)))
   carries (pos zero) q two h = carries-sign q two h
   carries (pos (suc t)) q two h = rw (ne_eqb (suc t) 0 (omega arith)) h
   carries (negsuc n) q two h = by (eqb (suc n) 1) h
     where
-      by : (b : Bool) → r ≡ cond b Accept (Reduce (suc n)) → Carries places r (filled_action q (cond b act.Accept (act.Reduce (suc n))))
+      by : (b : Bool) → r ≡ cond b (Some Accept) (Some (Reduce (suc n))) → Carries places r (filled_action q (cond b act.Accept (act.Reduce (suc n))))
       by true h = h
       by false h = h
 

@@ -1,14 +1,11 @@
 -- A read looks only at cells below W. Assumes nothing.
-use Rattle.std.specs.Prelude.{◌≡◌, ℕ, zero, suc, ◌+◌, ◌-◌, ◌*◌, ◌<◌, Bool, true, false, not, ◌&&◌, ltb, eqb, ℤ, pos, negsuc}
-use Rattle.std.proofs.Math.Path.{refl, ap}
-use Rattle.std.proofs.Common.{ap₂, ◌∙◌, arith}
-use Rattle.std.proofs.Math.Bool.{cond}
-use borrow.Author.Tests.{ltb-true}
+use Rattle.std.specs.Prelude.{◌≡◌, ℕ, zero, suc, ◌+◌, ◌-◌, ◌*◌, ◌<◌, Bool, true, false, not, ◌&&◌, ltb, eqb, ℤ, pos, negsuc, refl, cond, Option, Some, None}
+use Rattle.std.proofs.Common.{ap, ap₂, ◌∙◌, arith, ltb-true}
 use Rattle.tables.specs.Laws.Tests.{and-true}
-use Rattle.cells.specs.declared.Way.{Way}
-use Rattle.cells.specs.declared.Way.TheVariants.{Direct, Pointer}
-use Rattle.cells.specs.declared.Read.{Read}
-use Rattle.cells.specs.declared.Read.TheVariants.{Shift, Blank, Malformed}
+use Rattle.reads.specs.declared.Way.{Way}
+use Rattle.reads.specs.declared.Way.TheVariants.{Direct, Pointer}
+use Rattle.reads.specs.declared.Read.{Read}
+use Rattle.reads.specs.declared.Read.TheVariants.{Shift, Blank}
 use Rattle.cells.specs.Read.{Kind, action, goto, Cells, is_pos, is_number, found, is_state, state_read, sign_read, entry_read, default_read, read_at, read_from, base_for, read_cell}
 
 and-cong : (t : Bool) {p q : Bool} → (t ≡ true → p ≡ q) → (t && p) ≡ (t && q)
@@ -39,7 +36,7 @@ module _ (G W : ℕ) (target : ℕ → ℕ) (b b' k k' : ℕ → ℤ) (hb : (c :
 
   state-cong : (a y : ℕ) (w : Way) → state_read C a w y ≡ state_read D a w y
   unfolding state_read is_state
-  state-cong a y w = ap (λ (t : Bool). cond (not (eqb a 0) && (not (eqb y 0) && t)) (Shift w) Malformed) (inner-cong y)
+  state-cong a y w = ap (λ (t : Bool). cond (not (eqb a 0) && (not (eqb y 0) && t)) (Some (Shift w)) None) (inner-cong y)
 
   entry-cong : (κ : Kind) (a t : ℕ) (z : ℤ) → entry_read κ C a t z ≡ entry_read κ D a t z
   entry-cong κ a t (pos n) = state-cong a t (Direct t)
@@ -49,7 +46,7 @@ module _ (G W : ℕ) (target : ℕ → ℕ) (b b' k k' : ℕ → ℤ) (hb : (c :
   default-cong : (κ : Kind) (x a : ℕ) → suc x < W → default_read κ C x a ≡ default_read κ D x a
   default-cong action x a l = ap (sign_read G) (hk (suc x) l)
   default-cong goto x a l =
-      ap₂ (λ (t : Bool) (r : Read). cond t r Blank) (found-cong (target a) a) (state-cong a (target a) (Direct (target a)))
+      ap₂ (λ (t : Bool) (r : Option Read). cond t r (Some Blank)) (found-cong (target a) a) (state-cong a (target a) (Direct (target a)))
 
   at-cong : (κ : Kind) (x a t : ℕ) → suc x < W → read_at κ C x a t ≡ read_at κ D x a t
   unfolding read_at
@@ -73,4 +70,4 @@ module _ (G W : ℕ) (target : ℕ → ℕ) (b b' k k' : ℕ → ℤ) (hb : (c :
   read-cong κ x a =
       cond-cong (ltb (suc x) W && is_pos (b x))
       (λ e. let l = ltb-true (suc x) W (and-true (ltb (suc x) W) e).0 in from-cong κ x a (base_for κ C x) l ∙ ap (read_from κ D x a) (base-cong κ x l)) refl
-      ∙ ap (λ (t : Bool). cond t (read_from κ D x a (base_for κ D x)) Malformed) (inner-cong x)
+      ∙ ap (λ (t : Bool). cond t (read_from κ D x a (base_for κ D x)) None) (inner-cong x)

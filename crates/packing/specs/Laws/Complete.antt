@@ -1,10 +1,7 @@
 -- A placement that succeeds is sound and complete. Assumes nothing.
-use Rattle.std.specs.Prelude.{◌≡◌}
-use Rattle.std.proofs.Math.Path.{refl, ap}
-use Rattle.std.proofs.Common.{sym, ◌∙◌, subst}
-use Prim.Native.Nat.{ℕ, zero, suc, ◌+◌, ◌-◌, ◌≤◌, ◌<◌}
+use Rattle.std.specs.Prelude.{◌≡◌, refl, ℕ, zero, suc, ◌+◌, ◌-◌, ◌≤◌, ◌<◌}
+use Rattle.std.proofs.Common.{ap, sym, ◌∙◌, subst, arith}
 use Rattle.std.proofs.Math.Option.{Option, none, some}
-use native.Mathlib.Omega.{arith}
 use Rattle.cells.specs.Read.{Kind, action, goto}
 use Rattle.packing.specs.Job.{Job}
 use Rattle.packing.specs.Rows.{search, skip, plan}

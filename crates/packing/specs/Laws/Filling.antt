@@ -1,10 +1,7 @@
 -- Filling a row on the bench is filling it on the board: the bench of what a step leaves is what the step on the bench leaves. Assumes nothing.
-use Rattle.std.specs.Prelude.{◌≡◌, refl, ℕ, zero, suc, ◌+◌, ◌*◌, ◌≤◌, ◌<◌, Bool, ◌&&◌, eqb, ℤ, pos, set}
-use Rattle.std.proofs.Common.{sym, ◌∙◌, subst, ne_eqb}
-use Rattle.std.proofs.Math.Path.{ap}
-use Rattle.std.proofs.Math.Bool.{cond}
+use Rattle.std.specs.Prelude.{◌≡◌, refl, ℕ, zero, suc, ◌+◌, ◌*◌, ◌≤◌, ◌<◌, Bool, ◌&&◌, eqb, ℤ, pos, set, cond, get_or}
+use Rattle.std.proofs.Common.{sym, ◌∙◌, subst, ne_eqb, ap}
 use Rattle.std.proofs.Math.Option.{Option, none, some}
-use Rattle.std.proofs.Math.ListN.{get_or}
 use Rattle.tables.specs.Laws.Tests.{and-true}
 use Rattle.cells.specs.Read.{Kind, action, goto}
 use Rattle.packing.specs.Job.{Act, blank, shift, rule, Job, neg}

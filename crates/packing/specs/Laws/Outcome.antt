@@ -1,16 +1,14 @@
 -- The outcome of packing in terms of the board: what is said, and the arrays. Assumes nothing.
-use Rattle.std.specs.Prelude.{◌≡◌, refl, true, List, [], ◌∷◌, ℕ, zero, suc, ◌-◌, ◌≤◌, ◌<◌, ℤ, length, get_or}
+use Rattle.std.specs.Prelude.{◌≡◌, refl, true, cond, eqb, Result, Ok, Err, List, [], ℕ, zero, suc, ◌-◌, ◌≤◌, ◌<◌, ℤ, length, get_or}
 use Rattle.std.proofs.Common.{sym, ap, ◌∙◌, arith, eq-eqb, ne_eqb}
 use Rattle.std.proofs.Math.Decide.{dec_lt}
 use Rattle.tables.specs.declared.Sizes.{Sizes}
-use Rattle.tables.specs.declared.Judged.{Judged}
-use Rattle.tables.specs.declared.Judged.TheVariants.{Good, Size, Grammar, Entry, State, Nonterminal}
-use Rattle.tables.specs.Said.{Said, OK, NOROOM}
-use Rattle.tables.specs.Judgement.{judgement, said_of as judged_said}
-use Rattle.tables.specs.Laws.Judgement.{said-once}
+use Rattle.tables.specs.declared.Refusal.TheVariants.{Size, Grammar, Entry, State, Nonterminal}
+use Rattle.tables.specs.Said.{Said, OK}
+use Rattle.tables.specs.Judgement.{judgement}
 use Rattle.cells.specs.Read.{twice}
-use Rattle.packing.specs.declared.Packing.{Packing}
-use Rattle.packing.specs.declared.Packing.TheVariants.{Packed, Refused, NoRoom}
+use Rattle.packing.specs.declared.PackRefusal.{PackRefusal}
+use Rattle.packing.specs.declared.PackRefusal.TheVariants.{Judged, NoRoom}
 use Rattle.packing.specs.Job.{job_of}
 use Rattle.packing.specs.Bench.{Bench}
 use Rattle.packing.specs.Packed.{pack, bench_of}
@@ -48,33 +46,24 @@ pub count-is : (marks : List ℕ) (n : ℕ) → IsCount marks n → n ≤ length
 unfolding count_of
 count-is marks n c l = count_upto_lem marks n c (length marks) l
 
-number : {a b : Said} → a ≡ b → a.number ≡ b.number
-number e = ap (λ (s : Said). s.number) e
+-- the outcome that a number and its values stand for
+abbrev packing_of : ℕ → List ℕ → Result ℕ PackRefusal
+packing_of zero vs = Ok (get_or vs 0 0)
+packing_of (suc zero) vs = Err (Judged Size)
+packing_of (suc (suc zero)) vs = Err (Judged (Grammar (get_or vs 0 0)))
+packing_of (suc (suc (suc zero))) vs = Err (Judged (Entry (get_or vs 0 0)))
+packing_of (suc (suc (suc (suc zero)))) vs = Err (Judged (cond (eqb (get_or vs 0 0) 0) (State (get_or vs 1 0)) (Nonterminal (get_or vs 1 0))))
+packing_of (suc (suc (suc (suc (suc n))))) vs = Err NoRoom
 
-no-count : (j : Judged) (n : ℕ) → judged_said j ≡ OK (n ∷ []) → ⊥
-no-count Good n e = let k : ◌≡◌ {A = ℕ} 0 1 = ap (λ (s : Said). length s.values) e in omega arith
-no-count Size n e = let k : ◌≡◌ {A = ℕ} 1 0 = number e in omega arith
-no-count (Grammar r) n e = let k : ◌≡◌ {A = ℕ} 2 0 = number e in omega arith
-no-count (Entry i) n e = let k : ◌≡◌ {A = ℕ} 3 0 = number e in omega arith
-no-count (State s) n e = let k : ◌≡◌ {A = ℕ} 4 0 = number e in omega arith
-no-count (Nonterminal x) n e = let k : ◌≡◌ {A = ℕ} 4 0 = number e in omega arith
-
-has_room : (j : Judged) → judged_said j ≡ NOROOM → ⊥
-has_room Good e = let k : ◌≡◌ {A = ℕ} 0 5 = number e in omega arith
-has_room Size e = let k : ◌≡◌ {A = ℕ} 1 5 = number e in omega arith
-has_room (Grammar r) e = let k : ◌≡◌ {A = ℕ} 2 5 = number e in omega arith
-has_room (Entry i) e = let k : ◌≡◌ {A = ℕ} 3 5 = number e in omega arith
-has_room (State s) e = let k : ◌≡◌ {A = ℕ} 4 5 = number e in omega arith
-has_room (Nonterminal x) e = let k : ◌≡◌ {A = ℕ} 4 5 = number e in omega arith
+read_back : (a : Result ℕ PackRefusal) → packing_of (said_of a).number (said_of a).values ≡ a
+read_back (Ok n) = refl
+read_back (Err (Judged Size)) = refl
+read_back (Err (Judged (Grammar r))) = refl
+read_back (Err (Judged (Entry i))) = refl
+read_back (Err (Judged (State s))) = refl
+read_back (Err (Judged (Nonterminal x))) = refl
+read_back (Err NoRoom) = refl
 
 -- two outcomes that the contract allows for one input are equal
-pub packing-once : (a b : Packing) → said_of a ≡ said_of b → a ≡ b
-packing-once (Packed n) (Packed m) e = ap Packed (ap (λ (s : Said). get_or s.values 0 0) e)
-packing-once (Packed n) (Refused j) e = absurd (no-count j n (sym e))
-packing-once (Packed n) NoRoom e = absurd (let k : ◌≡◌ {A = ℕ} 0 5 = number e in omega arith)
-packing-once (Refused j) (Packed n) e = absurd (no-count j n e)
-packing-once (Refused j) (Refused k) e = ap Refused (said-once j k e)
-packing-once (Refused j) NoRoom e = absurd (has_room j e)
-packing-once NoRoom (Packed n) e = absurd (let k : ◌≡◌ {A = ℕ} 5 0 = number e in omega arith)
-packing-once NoRoom (Refused j) e = absurd (has_room j (sym e))
-packing-once NoRoom NoRoom e = refl
+pub packing-once : (a b : Result ℕ PackRefusal) → said_of a ≡ said_of b → a ≡ b
+packing-once a b e = sym (read_back a) ∙ ap (λ (s : Said). packing_of s.number s.values) e ∙ read_back b

@@ -1,12 +1,11 @@
 -- What packing leaves, for any job: cells that read as the filled table, sizes, places and count. Assumes nothing.
-use Rattle.std.specs.Prelude.{◌≡◌, ℕ, zero, suc, ◌-◌, ◌≤◌, ◌<◌, Bool, true, false, leb, pos}
-use Rattle.std.proofs.Math.Path.{refl, ap}
-use Rattle.std.proofs.Common.{sym, ◌∙◌, subst, arith, leb-true}
-use Rattle.std.proofs.Math.Bool.{cond}
+use Rattle.std.specs.Prelude as std
+use Rattle.std.specs.Prelude.{◌≡◌, ℕ, zero, suc, ◌-◌, ◌≤◌, ◌<◌, Bool, true, false, leb, pos, refl, cond, get_or}
+use Rattle.std.proofs.Common.{ap, sym, ◌∙◌, subst, arith, leb-true}
 use Rattle.std.proofs.Math.Option.{Option, none, some}
 use Rattle.std.proofs.Math.Decide.{dec_lt}
-use Rattle.std.proofs.Math.ListN.{get_or, get_or-eq_default}
-use Rattle.cells.specs.declared.Read.{Read}
+use Rattle.std.proofs.Math.ListN.{get_or-eq_default}
+use Rattle.reads.specs.declared.Read.{Read}
 use Rattle.cells.specs.Read.{Kind, action, goto, cells_of, read_cell}
 use Rattle.packing.specs.Job.{Act, blank, shift, rule, Job}
 use Rattle.packing.specs.Rows.{rule_sign, state_sign}
@@ -80,7 +79,7 @@ module _ (J : Job) (W : ℕ) (P : St) (C : Complete J P) (room : P.top ≤ W) wh
       rw (read_same κ (get_or (arrays J W P).places s 0) a, places-at s ls)
       (carry (read_cell κ (cells J W P) (placed P s) a) (filled J κ s a) refl (packed J W P wf C room κ s a ls l))
     where
-      carry : (r : Read) (k : Act) → filled J κ s a ≡ k → Says (placed P) r k → Says (λ t. get_or (arrays J W P).places t 0) r k
+      carry : (r : std.Option Read) (k : Act) → filled J κ s a ≡ k → Says (placed P) r k → Says (λ t. get_or (arrays J W P).places t 0) r k
       carry r blank f h = h
       carry r (rule q) f h = h
       carry r (shift t) f h = (h.0, h.1 ∙ sym (places-at t (filled-state J wf κ s a t ls l f)), h.2)

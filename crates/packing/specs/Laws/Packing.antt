@@ -1,11 +1,12 @@
 -- The parts of packing, put together. Assumes nothing.
-use Rattle.std.specs.Prelude.{◌≡◌, true, false, List, [], ◌∷◌, ℕ, suc, ◌-◌, ◌<◌, eqb, ℤ, length, get_or}
-use Rattle.std.proofs.Math.Path.{refl, sym}
-use Rattle.std.proofs.Common.{◌∙◌, arith, eqb-true, eq-eqb, ne_eqb}
-use Rattle.std.proofs.Math.Option.{Option, none, some}
+use Rattle.std.specs.Prelude.{◌≡◌, true, false, List, [], ℕ, eqb, ℤ, length, refl}
+use Rattle.std.proofs.Common.{sym, ◌∙◌, eqb-true}
+use Rattle.std.proofs.Math.Option.{Option, none}
 use Rattle.tables.specs.declared.Sizes.{Sizes}
 use Rattle.tables.specs.Said.{Said, OK, SIZE, NOROOM}
-use Rattle.tables.specs.Judgement.{judgement}
+use Rattle.tables.specs.declared.Refusal.{Refusal}
+use Rattle.tables.specs.declared.Refusal.TheVariants.{Size, Grammar, Entry, State, Nonterminal}
+use Rattle.tables.specs.Judgement.{judgement, refused as judged_refused}
 use Rattle.tables.specs.Laws.Tests.{and-true}
 use Rattle.tables.specs.Laws.Size.{all_fit_lem}
 use Rattle.tables.specs.Laws.Numbers.{judged-zero}
@@ -16,24 +17,17 @@ use Rattle.packing.specs.Packed.{bound}
 use Rattle.packing.specs.Bench.{Bench, placement_b}
 use Rattle.packing.specs.Job.{job_of}
 use Rattle.packing.specs.Turns.{Sized, Ready, wiped}
-use Rattle.packing.specs.Packing.{packing_result, arrays_fit, count_upto, count_of, placed_by, packed}
-
--- ---- the count
-
-module _ (marks : List ℕ) (n : ℕ) (some : 0 < n) where
-  pub count-on : get_or marks (n - 1) 0 ≡ 0 → count_upto marks n ≡ count_upto marks (n - 1)
-  count-on e = let q : n ≡ suc (n - 1) = omega arith in go (n - 1) q e
-    where
-      go : (m : ℕ) → n ≡ suc m → get_or marks m 0 ≡ 0 → count_upto marks n ≡ count_upto marks m
-      go m q e = rw (q, eq-eqb (get_or marks m 0) 0 e) refl
-
-  pub count-hit : (get_or marks (n - 1) 0 ≡ 0 → ⊥) → n ≡ count_upto marks n
-  count-hit e = let q : n ≡ suc (n - 1) = omega arith in go (n - 1) q e
-    where
-      go : (m : ℕ) → n ≡ suc m → (get_or marks m 0 ≡ 0 → ⊥) → n ≡ count_upto marks n
-      go m q e = rw (q, ne_eqb (get_or marks m 0) 0 e) refl
+use Rattle.packing.specs.Packing.{packing_result, arrays_fit, placed_by, packed}
 
 -- ---- the judgement
+
+-- a refusal is no OK
+refused_by : (r : Refusal) → eqb (judged_refused r).number 0 ≡ false
+refused_by Size = refl
+refused_by (Grammar i) = refl
+refused_by (Entry i) = refl
+refused_by (State s) = refl
+refused_by (Nonterminal x) = refl
 
 module _ (z : Sizes) (states : ℕ) (left lens rights : List ℕ) (table : List ℤ) (srule sgoto : List ℕ) where
   pub ready : (judgement z states left lens rights table srule sgoto).number ≡ 0 → Ready z states table srule sgoto
@@ -47,16 +41,16 @@ module _ (z : Sizes) (states : ℕ) (left lens rights : List ℕ) (table : List 
     refused-size e = rw e refl
 
     module _ (fit : arrays_fit states A ≡ true) where
-      pub refused-judged : (q : Said) → q ≡ judgement z states left lens rights table srule sgoto → eqb q.number 0 ≡ false
-          → packing_result q A ≡ packed z states left lens rights table srule sgoto A
+      pub refused-judged : (r : Refusal) → judged_refused r ≡ judgement z states left lens rights table srule sgoto
+          → packing_result (judged_refused r) A ≡ packed z states left lens rights table srule sgoto A
       unfolding packed
-      refused-judged q e n = rw (fit, ← e, n) refl
+      refused-judged r e = rw (fit, ← e, refused_by r) refl
 
-      pub accepted : (q x : Said) (B : Bench) → q ≡ judgement z states left lens rights table srule sgoto → eqb q.number 0 ≡ true
+      pub accepted : (x : Said) (B : Bench) → OK [] ≡ judgement z states left lens rights table srule sgoto
           → packing_result x B ≡ placed_by (placement_b (job_of twice z states table srule sgoto) (length A.bases) (bound (job_of twice z states table srule sgoto))) A
           → packing_result x B ≡ packed z states left lens rights table srule sgoto A
       unfolding packed
-      accepted q x B e n p = p ∙ sym (rw (fit, ← e, n) refl)
+      accepted x B e p = p ∙ sym (rw (fit, ← e) refl)
 
 -- ---- sizes
 
@@ -65,12 +59,10 @@ unfolding arrays_fit
 sized states A e =
     let p : (cells_fit A.bases A.checks ≡ true) × _ = and-true (cells_fit A.bases A.checks) e in
     let q : (eqb (length A.marks) (length A.bases) ≡ true) × _ = and-true (eqb (length A.marks) (length A.bases)) p.1 in
-    record { checks = (cells_fit_lem A.bases A.checks p.0).same; marks = eqb-true _ _ q.0; places = eqb-true _ _ q.1 }
+    let f = cells_fit_lem A.bases A.checks p.0 in
+    record { most = f.most; checks = f.same; marks = eqb-true _ _ q.0; places = eqb-true _ _ q.1 }
 
 -- ---- placement
-
-pub placed-count : (A B : Bench) (o : Option Bench) (n : ℕ) → some B ≡ o → n ≡ count_of B.marks → packing_result (OK (n ∷ [])) B ≡ placed_by o A
-placed-count A B o n e q = rw (← e, q) refl
 
 -- arrays of the same sizes are wiped to the same
 pub no_room : (A B C : Bench) (o : Option Bench) → none ≡ o → C ≡ wiped 0 B

@@ -1,18 +1,12 @@
 -- Reading a complete board gives the filled table. Assumes nothing.
-use Rattle.std.specs.Prelude.{◌≡◌, ◌≢◌, Bool, ltb, pos, negsuc}
-use Rattle.std.proofs.Math.Path.{refl}
-use Rattle.std.proofs.Common.{sym, ap, ◌∙◌, subst}
-use Prim.Native.Nat.{ℕ, zero, suc, ◌+◌, ◌-◌, ◌*◌, ◌≤◌, ◌<◌}
-use Rattle.std.proofs.Math.Bool.{true, false, cond, true≢false}
+use Rattle.std.specs.Prelude.{◌≡◌, ◌≢◌, Bool, ltb, pos, negsuc, refl, ℕ, zero, suc, ◌+◌, ◌-◌, ◌*◌, ◌≤◌, ◌<◌, true, false, cond, eqb, Option, Some, None}
+use Rattle.std.proofs.Common.{sym, ap, ◌∙◌, subst, true≢false, arith, eqb-true, eq-eqb, ne_eqb, lt-ltb, le-ltb, le-leb}
 use Rattle.std.proofs.Math.Option.{some}
-use native.Mathlib.Omega.{arith}
-use Rattle.std.proofs.Math.Dec.{eqb}
-use borrow.Author.Tests.{eqb-true, eq-eqb, ne_eqb, lt-ltb, le-ltb, le-leb}
 use Rattle.tables.specs.Laws.Tests.{and-true}
-use Rattle.cells.specs.declared.Way.{Way}
-use Rattle.cells.specs.declared.Way.TheVariants.{Direct, Pointer}
-use Rattle.cells.specs.declared.Read.{Read}
-use Rattle.cells.specs.declared.Read.TheVariants.{Shift, Reduce, Accept, Blank, Malformed}
+use Rattle.reads.specs.declared.Way.{Way}
+use Rattle.reads.specs.declared.Way.TheVariants.{Direct, Pointer}
+use Rattle.reads.specs.declared.Read.{Read}
+use Rattle.reads.specs.declared.Read.TheVariants.{Shift, Reduce, Accept, Blank}
 use Rattle.cells.specs.Read.{Kind, action, goto, Cells, is_number, found, is_state, state_read, rule_read, sign_read, entry_read, default_read, read_at, read_from, read_cell}
 use Rattle.packing.specs.Job.{Act, blank, shift, rule, Job, neg, sign_check}
 use Rattle.packing.specs.Rows.{rule_sign, state_sign, sign, kind_of, row, rep}
@@ -31,10 +25,10 @@ abbrev pub cells : Job → ℕ → St → Cells
 cells J W P = record { G = J.rules; W = W; base = base_at J P; check = check_at J P; target = J.off }
 
 -- what a read has to answer where the table says e, with each state carried to its cell by `place`
-abbrev pub Says : (ℕ → ℕ) → Read → Act → Type 0
-Says place r blank = r ≡ Blank
+abbrev pub Says : (ℕ → ℕ) → Option Read → Act → Type 0
+Says place r blank = r ≡ Some Blank
 Says place r (shift t) = ShiftsTo r (place t)
-Says place r (rule q) = r ≡ cond (eqb q 1) Accept (Reduce q)
+Says place r (rule q) = r ≡ cond (eqb q 1) (Some Accept) (Some (Reduce q))
 
 -- the cell of each state on a board
 abbrev pub placed : St → ℕ → ℕ
@@ -62,7 +56,7 @@ module _ (J : Job) (W : ℕ) (P : St) (wf : WF J) (C : Complete J P) (room : P.t
       let h : IsHome J (own 0) s = subst (λ (o : Owner). IsHome J o s) C.origin (S.home s zero e) in absurd (omega arith)
   not-origin s (suc x) l e = omega arith
 
-  state_read_lem : (a s x : ℕ) (w : Way) → 1 ≤ a → 1 ≤ s → P.place s ≡ some x → state_read (cells J W P) a w x ≡ Shift w
+  state_read_lem : (a s x : ℕ) (w : Way) → 1 ≤ a → 1 ≤ s → P.place s ≡ some x → state_read (cells J W P) a w x ≡ Some (Shift w)
   unfolding state_read is_state
   state_read_lem a s x w la ls e =
       let n = not-origin s x ls e in
@@ -145,17 +139,17 @@ module _ (J : Job) (W : ℕ) (P : St) (wf : WF J) (C : Complete J P) (room : P.t
       go true e = (Direct y, refl, rw (is, e, ← eqb-true y c e) (state_read_lem a t y (Direct y) la lt p))
       go false e = (Pointer y, refl, rw (is, e) (pointer_read κ a c (J.rules + y) y refl (not-origin t y lt p) ∙ state_read_lem a t y (Pointer y) la lt p))
 
-  rule-answer : (a q : ℕ) → 1 ≤ q → q ≤ J.rules → (q ≡ 1 → a ≡ 0) → (c : ℕ) → entry_read action (cells J W P) a c (neg q) ≡ cond (eqb q 1) Accept (Reduce q)
+  rule-answer : (a q : ℕ) → 1 ≤ q → q ≤ J.rules → (q ≡ 1 → a ≡ 0) → (c : ℕ) → entry_read action (cells J W P) a c (neg q) ≡ cond (eqb q 1) (Some Accept) (Some (Reduce q))
   unfolding rule_read
   rule-answer a zero l m f c = absurd (omega arith)
   rule-answer a (suc n) l m f c = rw (le-ltb J.rules (suc n) m) (go (eqb (suc n) 1) refl)
     where
-      go : (b : Bool) → eqb (suc n) 1 ≡ b → cond b (cond (eqb a 0) Accept Malformed) (Reduce (suc n)) ≡ cond b Accept (Reduce (suc n))
+      go : (b : Bool) → eqb (suc n) 1 ≡ b → cond b (cond (eqb a 0) (Some Accept) None) (Some (Reduce (suc n))) ≡ cond b (Some Accept) (Some (Reduce (suc n)))
       go true e = rw (eq-eqb a 0 (f (eqb-true (suc n) 1 e)))
       go false e = refl
 
   rule-read : (r a c q : ℕ) → P.owner c ≡ ent action r a → row J action r a ≡ rule q → 1 ≤ q → q ≤ J.rules → (q ≡ 1 → a ≡ 0)
-      → entry_read action (cells J W P) a c (base_at J P c) ≡ cond (eqb q 1) Accept (Reduce q)
+      → entry_read action (cells J W P) a c (base_at J P c) ≡ cond (eqb q 1) (Some Accept) (Some (Reduce q))
   rule-read r a c q o w l m f = rw is (rule-answer a q l m f c)
     where
       is : base_at J P c ≡ neg q
@@ -176,7 +170,7 @@ module _ (J : Job) (W : ℕ) (P : St) (wf : WF J) (C : Complete J P) (room : P.t
   missed κ x a t e = rw e
 
   -- a shift to the cell of t, read in another way, is a shift to the place of t
-  shifts : {q r : Read} (t x : ℕ) → q ≡ r → P.place t ≡ some x → ShiftsTo r x → ShiftsTo q (placed P t)
+  shifts : {q r : Option Read} (t x : ℕ) → q ≡ r → P.place t ≡ some x → ShiftsTo r x → ShiftsTo q (placed P t)
   shifts t x e p h = (h.0, h.1 ∙ sym (ap place_of p), e ∙ h.2)
 
   -- ---- terminals

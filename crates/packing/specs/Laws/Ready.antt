@@ -13,7 +13,7 @@ use Rattle.tables.specs.Laws.Entry.{term-ok, nonterm-ok}
 use Rattle.tables.specs.Laws.Signing.{RuleSigned, unsigned, by-rule, signature-ok}
 use Rattle.tables.specs.Laws.Size.{NumbersFit, SigningFits, signing_fits_lem}
 use Rattle.packing.specs.Job.{blank, rule, view}
-use Rattle.packing.specs.Written.{Low, Tame, TameRules}
+use Rattle.packing.specs.Bounds.{Low, Tame, TameRules}
 use Rattle.packing.specs.Turns.{Ready}
 use Rattle.packing.specs.Laws.Everywhere.{everywhere-same}
 

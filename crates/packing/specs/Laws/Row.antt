@@ -1,10 +1,8 @@
 -- The row step on the bench is the row step on the board, or NOROOM. Assumes nothing.
-use Rattle.std.proofs.Math.Path.{◌≡◌, sym, ap}
-use Rattle.std.specs.Prelude.{refl, ℕ, zero, suc, ◌+◌, ◌-◌, ◌*◌, ◌≤◌, ◌<◌, Bool, true, false, not, cond, ◌&&◌, leb}
-use Rattle.std.proofs.Common.{ap₂, ◌∙◌, subst, true≢false, arith}
+use Rattle.std.specs.Prelude.{◌≡◌, refl, ℕ, zero, suc, ◌+◌, ◌-◌, ◌*◌, ◌≤◌, ◌<◌, Bool, true, false, not, cond, ◌&&◌, leb}
+use Rattle.std.proofs.Common.{sym, ap, ap₂, ◌∙◌, subst, true≢false, arith, le-leb}
 use Rattle.std.proofs.Math.Option.{Option, none, some}
 use Rattle.std.proofs.Math.Decide.{dec_lt}
-use borrow.Author.Tests.{le-leb}
 use Rattle.cells.specs.Read.{Kind}
 use Rattle.packing.specs.Job.{Act, blank, shift, rule, Job}
 use Rattle.packing.specs.Rows.{row, rep, Plan, search, share, skip, plan}

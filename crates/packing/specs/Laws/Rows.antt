@@ -1,11 +1,8 @@
 -- Written rows: compared, shared, and what filling puts back. Assumes nothing.
-use Rattle.std.proofs.Math.Path.{◌≡◌, refl, ap}
-use Rattle.std.proofs.Common.{sym, ◌∙◌, subst, true≢false, arith}
-use Rattle.std.specs.Prelude.{◌≢◌, ℕ, zero, suc, ◌+◌, ◌≤◌, ◌<◌, Bool}
-use Rattle.std.proofs.Math.Bool.{true, false, cond}
+use Rattle.std.proofs.lemmas.Bool.{eqb-false}
+use Rattle.std.specs.Prelude.{◌≡◌, refl, ◌≢◌, ℕ, zero, suc, ◌+◌, ◌≤◌, ◌<◌, Bool, true, false, cond, eqb}
+use Rattle.std.proofs.Common.{ap, sym, ◌∙◌, subst, true≢false, arith, eqb-true, eq-eqb, ltb-true}
 use Rattle.std.proofs.Math.Decide.{dec_le, dec_lt}
-use Rattle.std.proofs.Math.Dec.{eqb}
-use borrow.Author.Tests.{eqb-true, eqb-false, eq-eqb, ltb-true}
 use Rattle.tables.specs.Laws.Tests.{and-true}
 use Rattle.cells.specs.Read.{Kind, action, goto}
 use Rattle.packing.specs.Job.{Act, blank, shift, rule, Job, eq_act, is_blank}
@@ -110,7 +107,7 @@ blank_of blank h = refl
 blank_of (shift t) h = cc
 blank_of (rule r) h = cc
 
-empty-at : (f : ℕ → Act) (n : ℕ) → empty_upto f n ≡ true → (d : ℕ) → d < n → f d ≡ blank
+pub empty-at : (f : ℕ → Act) (n : ℕ) → empty_upto f n ≡ true → (d : ℕ) → d < n → f d ≡ blank
 empty-at f zero e d l = absurd (omega arith)
 empty-at f (suc n) e d l =
     let b = and-true (empty_upto f n) e in below_suc (λ (d : ℕ). f d ≡ blank) n (empty-at f n b.0) (blank_of (f n) b.1) d l

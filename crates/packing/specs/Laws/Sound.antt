@@ -1,7 +1,6 @@
 -- What placement keeps: each owner stands where its row's base says, each placed state has its two cells. Assumes nothing.
 use Rattle.std.specs.Prelude.{◌≡◌, refl, ◌≢◌, ℕ, suc, ◌+◌, ◌*◌, ◌≤◌, ◌<◌, max, false}
-use Rattle.std.proofs.Math.Path.{sym, ap}
-use Rattle.std.proofs.Common.{◌∙◌, subst, arith}
+use Rattle.std.proofs.Common.{sym, ap, ◌∙◌, subst, arith}
 use Rattle.std.proofs.Math.Option.{some}
 use Rattle.cells.specs.Read.{Kind}
 use Rattle.packing.specs.Job.{blank, shift, Job}

@@ -1,7 +1,6 @@
 -- What placement leaves in the arrays: small numbers, and as many marks as there were. Assumes nothing.
-use Rattle.std.specs.Prelude.{◌≡◌, refl, Bool, cond, not, ◌&&◌, ℕ, zero, suc, ◌+◌, ◌-◌, ◌*◌, ◌≤◌, ◌<◌, eqb, ℤ, pos, negsuc, length, get_or, set}
+use Rattle.std.specs.Prelude.{◌≡◌, refl, Bool, cond, not, ◌&&◌, ℕ, zero, suc, ◌+◌, ◌-◌, ◌*◌, ◌≤◌, ◌<◌, eqb, ℤ, pos, negsuc, length, get_or, set, true, false}
 use Rattle.std.proofs.Common.{◌∙◌, arith, length-set}
-use Rattle.std.proofs.Math.Bool.{true, false}
 use Rattle.std.proofs.Math.Option.{Option, none, some}
 use Rattle.std.proofs.Math.ListN.{length-replicate}
 use Rattle.cells.specs.Read.{Kind, action, goto}

@@ -1,9 +1,6 @@
 -- What each step of placement does to the four arrays: one store, or two side by side. Assumes nothing.
-use Rattle.std.proofs.Math.Path.{◌≡◌, refl, sym, ap}
-use Rattle.std.proofs.Common.{◌∙◌, arith, eqb-true, eq-eqb}
-use Prim.Native.Nat.{ℕ, suc, ◌+◌, ◌<◌}
-use Rattle.std.specs.Prelude.{Bool, true, false, List, eqb, ℤ, set}
-use Rattle.std.proofs.Math.Bool.{cond}
+use Rattle.std.specs.Prelude.{◌≡◌, refl, ℕ, suc, ◌+◌, ◌<◌, Bool, true, false, List, eqb, ℤ, set, cond}
+use Rattle.std.proofs.Common.{sym, ap, ◌∙◌, arith, eqb-true, eq-eqb}
 use Rattle.std.proofs.Math.Option.{Option, none, some}
 use Rattle.std.proofs.Math.IntN.{pos}
 use Rattle.cells.specs.Read.{Kind, action, goto}

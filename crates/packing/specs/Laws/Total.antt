@@ -1,10 +1,9 @@
 -- Placement never runs out: each search ends below a bound that grows by 4M + 4 with each state. Assumes nothing.
-use Rattle.std.specs.Prelude.{◌≡◌, refl, Bool, true, false, ◌&&◌}
-use Rattle.std.proofs.Common.{sym, ap, ◌∙◌, subst, arith}
-use Prim.Native.Nat.{ℕ, zero, suc, ◌+◌, ◌-◌, ◌*◌, ◌≤◌, ◌<◌, max}
+use Rattle.std.proofs.lemmas.Bool.{lt-leb}
+use Rattle.std.specs.Prelude.{◌≡◌, refl, Bool, true, false, ◌&&◌, ℕ, zero, suc, ◌+◌, ◌-◌, ◌*◌, ◌≤◌, ◌<◌, max}
+use Rattle.std.proofs.Common.{sym, ap, ◌∙◌, subst, arith, ne_eqb, le-leb}
 use Rattle.std.proofs.Math.Option.{Option, none, some}
 use Rattle.std.proofs.Math.Decide.{dec_lt}
-use borrow.Author.Tests.{ne_eqb, le-leb, lt-leb}
 use Rattle.cells.specs.Read.{Kind, action, goto}
 use Rattle.packing.specs.Job.{Job}
 use Rattle.packing.specs.Rows.{Plan, search, share, skip, plan}

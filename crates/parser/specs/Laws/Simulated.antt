@@ -1,18 +1,17 @@
 -- Cells that were packed read as the filled table, each state carried to its cell: so a parse with them is the plain machine's. Assumes nothing.
-use Rattle.std.specs.Prelude.{◌≡◌, true, List, [], ℕ, ◌≤◌, ℤ, get_or}
+use Rattle.std.specs.Prelude.{◌≡◌, true, List, [], ℕ, ◌≤◌, ℤ, get_or, Option, Some, None}
 use Rattle.std.proofs.Common.{sym, ap, ◌∙◌, arith}
 use Rattle.std.proofs.Math.Option.{some}
 use Rattle.tables.specs.declared.Sizes.{Sizes}
 use Rattle.tables.specs.declared.Action.{Action}
 use Rattle.tables.specs.declared.Action.TheVariants as action
-use Rattle.tables.specs.declared.Goto.{Goto}
-use Rattle.tables.specs.declared.Goto.TheVariants as goto
 use Rattle.tables.specs.Said.{OK}
 use Rattle.tables.specs.Grammar.{grammar}
 use Rattle.tables.specs.Judgement.{judgement}
 use Rattle.tables.specs.Filled.{filled_action_at, filled_goto_at}
 use Rattle.tables.specs.Laws.Judgement.{ok-means}
-use Rattle.cells.specs.declared.Read.{Read}
+use Rattle.reads.specs.declared.Read.{Read}
+use Rattle.reads.specs.Reads.{shift, goes, act_said, go_said}
 use Rattle.cells.specs.Read.{twice}
 use Rattle.cells.specs.Size.{cells_fit}
 use Rattle.cells.specs.Laws.Size.{fit-cells}
@@ -31,22 +30,22 @@ use Rattle.machine.specs.Steps.{steps}
 use Rattle.machine.specs.Laws.Steps.{steps-carried}
 use Rattle.machine.specs.Laws.Whole.{plain-whole, parse-equal}
 use Rattle.machine.specs.Laws.Plain.{plain_carried}
-use Rattle.parser.specs.Reads.{act_of, go_of, cell_reads}
+use Rattle.cells.specs.Reads.{cell_reads}
 use Rattle.parser.specs.Outcome.{packed_fits, packed_parse}
 use Rattle.parser.specs.Laws.Judged.{grammar-good}
 
 -- ---- a read that carries an entry
 
-module _ (places : List ℕ) (r : Read) where
-  act-carried : (a : Action) → Carries places r a → act_of r ≡ carry_act (λ s. get_or places s 0) (machine.act_of a)
-  act-carried action.Blank h = ap act_of h
-  act-carried (action.Shift t) h = ap act_of h.2 ∙ ap machine.shift h.1
-  act-carried (action.Reduce q) h = ap act_of h
-  act-carried action.Accept h = ap act_of h
+module _ (places : List ℕ) (r : Option Read) where
+  act-carried : (a : Action) → Carries places r a → act_said r ≡ carry_act (λ s. get_or places s 0) (machine.act_of a)
+  act-carried action.Blank h = ap act_said h
+  act-carried (action.Shift t) h = ap act_said h.2 ∙ ap shift h.1
+  act-carried (action.Reduce q) h = ap act_said h
+  act-carried action.Accept h = ap act_said h
 
-  go-carried : (x : Goto) → CarriesGoto places r x → go_of r ≡ carry_go (λ s. get_or places s 0) (machine.go_of x)
-  go-carried goto.Blank h = ap go_of h
-  go-carried (goto.To t) h = ap go_of h.2 ∙ ap machine.goes h.1
+  go-carried : (x : Option ℕ) → CarriesGoto places r x → go_said r ≡ carry_go (λ s. get_or places s 0) (machine.go_of x)
+  go-carried None h = ap go_said h
+  go-carried (Some t) h = ap go_said h.2 ∙ ap goes h.1
 
 -- ---- packed cells
 

@@ -1,16 +1,18 @@
-use native.Mathlib.Omega.{arith}
+use Rattle.std.specs.Prelude.{refl}
+use Rattle.std.proofs.Common.{arith}
 use Rattle.printed.specs.Printed.{signed_text}
-use Rattle.printed.specs.Laws.Printed.{cells-printed, packing-refused, put_same}
+use Rattle.printed.specs.Laws.Printed.{pack-refused-some, cells-printed, packing-refused, put_same}
 use Rattle.printed.specs.Laws.Board.{count_fits}
 use Rattle.printed.proofs.print_signed.Goals as goal
 
-pub overflow_cast-said : goal.overflow_cast-said
-overflow_cast-said c = record { fits = omega (arith, count_fits _ _ c.pack_board-said.ensures c.if-number-eq0.true) }
+pub overflow_cast-count : goal.overflow_cast-count
+overflow_cast-count c = record { fits = omega (arith, count_fits _ _ c.in-Ok.ensures refl) }
 
-pub returns-then-number-eq0 : goal.returns-then-number-eq0
+pub returns-in-Ok : goal.returns-in-Ok
 unfolding signed_text
-returns-then-number-eq0 c = put_same (cells-printed _ c.pack_board-said.ensures c.if-number-eq0.true) c.print_cells.ensures
+returns-in-Ok c = put_same (cells-printed _ c.in-Ok.ensures refl) c.print_cells.ensures
 
-pub returns : goal.returns
+pub returns-in-Err : goal.returns-in-Err
 unfolding signed_text
-returns c = put_same (packing-refused _ c.pack_board-said.ensures c.if-number-eq0.false) c.print_refusal.ensures
+returns-in-Err c =
+    put_same (packing-refused _ c.in-Err.ensures (pack-refused-some c.in-Err.e)) (rw c.from.ensures at c.print_refusal.ensures)

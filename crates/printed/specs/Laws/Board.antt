@@ -1,14 +1,13 @@
 -- What reading and packing for the small board say and leave: low numbers, and at most 64 cells with small numbers in them. Assumes nothing.
-use Rattle.std.specs.Prelude.{◌≡◌, List, ℕ, ◌≤◌, get_or, replicate}
-use Rattle.std.proofs.Common.{ap, ◌∙◌, arith}
+use Rattle.std.specs.Prelude.{◌≡◌, List, [], ◌∷◌, ℕ, ◌≤◌, get_or, replicate}
+use Rattle.std.proofs.Common.{sym, ap, ◌∙◌, arith}
 use Rattle.sheets.specs.Laws.Numbers.{read_low}
+use Rattle.tables.specs.Said.{Said, OK}
 use Rattle.packing.specs.Bench.{Bench}
+use Rattle.packing.specs.Packing.{Result, packing_result}
 use Rattle.packing.specs.Laws.Numbers as packing
 use Rattle.board.specs.Board.{small}
-use Rattle.answers.specs.declared.Answer.{Answer}
-use Rattle.answers.specs.Told.{Told, told, told_of}
 use Rattle.printed.specs.Printed.{board_packed, lent, board_read}
-use Rattle.printed.specs.Laws.Printed.{packed-number}
 
 -- reading says a number up to 15
 pub reading-low : (text : List ℕ) → (board_read text).said.number ≤ 15
@@ -28,7 +27,8 @@ module _ (srule sgoto : List ℕ) where
       packing.packed-held small.sizes small.states small.left small.lens small.rights small.table srule sgoto lent 2000 (omega arith) (omega arith) h
 
   -- the count, as a number of the code
-  pub count_fits : {a : Answer} {A : Bench} → told a A ≡ told_of (board_packed srule sgoto lent) → a.number ≡ 0 → a.first ≤ 64
-  count_fits {a} e h =
-      let g : a.first ≡ get_or (board_packed srule sgoto lent).said.values 0 0 = ap (λ (t : Told). t.said.first) e in
-      omega (arith, (board-held (packed-number (board_packed srule sgoto lent) e ∙ h)).count)
+  pub count_fits : {q : Said} {A : Bench} {n : ℕ} → packing_result q A ≡ board_packed srule sgoto lent → q ≡ OK (n ∷ []) → n ≤ 64
+  count_fits {q} {A} {n} e h =
+      let s : (board_packed srule sgoto lent).said ≡ OK (n ∷ []) = ap (λ (r : Result). r.said) (sym e) ∙ h in
+      let k : get_or (board_packed srule sgoto lent).said.values 0 0 ≡ n = ap (λ (s : Said). get_or s.values 0 0) s in
+      omega (arith, k, (board-held (ap (λ (s : Said). s.number) s)).count)

@@ -1,9 +1,6 @@
 -- What is printed is short. Assumes nothing.
-use Rattle.std.specs.Prelude.{◌≡◌, refl, Bool, true, false, cond, List, ◌++◌, leb, eqb, ℤ, pos, negsuc, length, get_or}
-use Rattle.std.proofs.Common.{ap, ◌∙◌, eqb-true}
-use Prim.Native.Nat.{ℕ, zero, suc, ◌+◌, ◌*◌, ◌≤◌, ◌<◌}
-use native.Mathlib.Omega.{arith}
-use Rattle.std.proofs.Math.ListN.{length-append}
+use Rattle.std.specs.Prelude.{◌≡◌, refl, Bool, true, false, cond, List, ◌++◌, leb, eqb, ℤ, pos, negsuc, length, get_or, ℕ, zero, suc, ◌+◌, ◌*◌, ◌≤◌, ◌<◌}
+use Rattle.std.proofs.Common.{ap, ◌∙◌, eqb-true, arith, length-append}
 use Rattle.std.proofs.Math.Seq.{length-sets}
 use Rattle.number.specs.Number.{sign_of}
 use Rattle.sheets.specs.Decimal.{decimal}

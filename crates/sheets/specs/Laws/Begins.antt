@@ -1,8 +1,6 @@
 -- Bytes that stand at a place are the text from there on, up to what comes after them. Assumes nothing.
-use Rattle.std.specs.Prelude.{◌≡◌, refl, true, ℕ, ◌+◌, eqb, length, drop}
-use Rattle.std.proofs.Common.{sym, ◌∙◌, drop-drop, eq-eqb, eqb-true}
-use Rattle.std.proofs.Math.Path.{ap}
-use mathlib.Core.List.{List, [], ◌∷◌, ◌++◌}
+use Rattle.std.specs.Prelude.{◌≡◌, refl, true, ℕ, ◌+◌, eqb, length, drop, List, [], ◌∷◌, ◌++◌}
+use Rattle.std.proofs.Common.{sym, ◌∙◌, drop-drop, eq-eqb, eqb-true, ap}
 use Rattle.std.proofs.Math.Seq.{drop-append_seam}
 use Rattle.tables.specs.Laws.Tests.{clash, and-true}
 use Rattle.sheets.specs.Lines.{begins, stands}

@@ -1,7 +1,7 @@
 -- The digits of a number are those of its tenth, and then the last one. Assumes nothing.
 use Rattle.std.specs.Prelude.{◌≡◌, refl, Bool, true, false, ℕ, zero, suc, ◌/◌, ◌≤◌, ◌<◌, ltb}
-use Rattle.std.proofs.Math.Nat.{div-lt_self}
 use Rattle.std.proofs.Common.{arith, ltb-false}
+use Rattle.std.proofs.Math.Nat.{div-lt_self}
 use Rattle.sheets.specs.Decimal.{last_after, digits, decimal}
 
 -- more room than digits changes nothing

@@ -1,18 +1,11 @@
 -- A number in digits is read back, and what is read as a number is that number in digits. Assumes nothing.
-use Rattle.std.specs.Prelude.{◌≡◌, Bool, ltb, leb}
-use Rattle.std.proofs.Math.Path.{refl, ap}
-use Rattle.std.proofs.Common.{sym, ◌∙◌, div-add-mod', length-append}
-use Rattle.std.proofs.Math.Bool.{true, false, cond}
-use mathlib.Core.List.{List, [], ◌∷◌, ◌++◌, append_assoc, append-nil}
-use Prim.Native.Nat.{ℕ, zero, suc, ◌+◌, ◌-◌, ◌*◌, ◌/◌, ◌%◌, ◌≤◌, ◌<◌}
-use native.Mathlib.Omega.{arith}
-use Rattle.std.proofs.Math.ListN.{length}
-use borrow.Author.Tests.{lt-ltb, le-ltb, le-leb, ltb-true, ltb-false}
+use Rattle.std.specs.Prelude.{◌≡◌, Bool, Some, None, ltb, leb, refl, true, false, cond, List, [], ◌∷◌, ◌++◌, ℕ, zero, suc, ◌+◌, ◌-◌, ◌*◌, ◌/◌, ◌%◌, ◌≤◌, ◌<◌, length}
+use Rattle.std.proofs.Common.{ap, sym, ◌∙◌, div-add-mod', length-append, append_assoc, append-nil, arith, lt-ltb, le-ltb, le-leb, ltb-true, ltb-false}
 use Rattle.tables.specs.Size.{is_within}
 use Rattle.tables.specs.Laws.Size.{Within, within}
-use Rattle.sheets.specs.declared.Value.TheVariants.{Is, Bad}
+use Rattle.sheets.specs.declared.Value.{Value}
 use Rattle.sheets.specs.Decimal.{digit, decimal}
-use Rattle.sheets.specs.Lines.{digits_on, number_on}
+use Rattle.sheets.specs.Lines.{value_to, digits_on, number_on}
 use Rattle.sheets.specs.Laws.Decimal.{decimal_step}
 
 -- ---- one digit more
@@ -109,18 +102,21 @@ record Digits (v n at p : ℕ) (t : List ℕ) : Type 0 where
   pub written : decimal v ≡ decimal n ++ bytes
   pub some : 1 ≤ v
 
-pub is-value : {v w p q : ℕ} → Is v p ≡ Is w q → v ≡ w
-is-value e = cc
+same-value : {v w : Value} → Some v ≡ Some w → v ≡ w
+same-value e = cc
 
-pub is-place : {v w p q : ℕ} → Is v p ≡ Is w q → p ≡ q
-is-place e = cc
+pub is-value : {v w p q : ℕ} → value_to v p ≡ value_to w q → v ≡ w
+is-value e = ap (λ (u : Value). u.number) (same-value e)
 
-pub bad-is : {v p : ℕ} → Bad ≡ Is v p → ⊥
+pub is-place : {v w p q : ℕ} → value_to v p ≡ value_to w q → p ≡ q
+is-place e = ap (λ (u : Value). u.next) (same-value e)
+
+pub bad-is : {v p : ℕ} → None ≡ value_to v p → ⊥
 bad-is e = let z : ◌≡◌ {A = ℕ} 0 1 = cc in omega arith
 
 module _ (most v p : ℕ) where
   -- no digit more
-  no_more : (n at : ℕ) (t : List ℕ) → 1 ≤ n → Is n at ≡ Is v p → Digits v n at p t
+  no_more : (n at : ℕ) (t : List ℕ) → 1 ≤ n → value_to n at ≡ value_to v p → Digits v n at p t
   no_more n at t l e =
       let a : n ≡ v = is-value e in
       let b : at ≡ p = is-place e in
@@ -149,14 +145,14 @@ module _ (most v p : ℕ) where
         some = d.some;
       }
 
-  digits-only : (n at : ℕ) (t : List ℕ) → 1 ≤ n → digits_on most n at t ≡ Is v p → Digits v n at p t
+  digits-only : (n at : ℕ) (t : List ℕ) → 1 ≤ n → digits_on most n at t ≡ value_to v p → Digits v n at p t
   unfolding digits_on
   digits-only n at [] l e = no_more n at [] l e
   digits-only n at (c ∷ t) l e = by (is_within 48 57 c) refl (leb (n * 10 + (c - 48)) most) (λ g h. digits-only (n * 10 + (c - 48)) (at + 1) t g h) e
     where
       by : (b : Bool) → is_within 48 57 c ≡ b → (d : Bool)
-          → (1 ≤ n * 10 + (c - 48) → digits_on most (n * 10 + (c - 48)) (at + 1) t ≡ Is v p → Digits v (n * 10 + (c - 48)) (at + 1) p t)
-          → cond b (cond d (digits_on most (n * 10 + (c - 48)) (at + 1) t) Bad) (Is n at) ≡ Is v p
+          → (1 ≤ n * 10 + (c - 48) → digits_on most (n * 10 + (c - 48)) (at + 1) t ≡ value_to v p → Digits v (n * 10 + (c - 48)) (at + 1) p t)
+          → cond b (cond d (digits_on most (n * 10 + (c - 48)) (at + 1) t) None) (value_to n at) ≡ value_to v p
           → Digits v n at p (c ∷ t)
       by false w d r q = no_more n at (c ∷ t) l q
       by true w false r q = absurd (bad-is q)
@@ -170,7 +166,7 @@ pub record Number (v at p : ℕ) (t : List ℕ) : Type 0 where
   pub some : 1 ≤ v
 
 module _ (most v at p : ℕ) where
-  first-only : (c : ℕ) (t : List ℕ) → Within 49 57 c → digits_on most 0 at (c ∷ t) ≡ Is v p → Number v at p (c ∷ t)
+  first-only : (c : ℕ) (t : List ℕ) → Within 49 57 c → digits_on most 0 at (c ∷ t) ≡ value_to v p → Number v at p (c ∷ t)
   unfolding digits_on
   first-only c t w e =
       let low : 49 ≤ c = w.least in
@@ -190,15 +186,15 @@ module _ (most v at p : ℕ) where
             some = d.some;
           }
 
-      by : decimal (c - 48) ≡ c ∷ [] → (b : Bool) → cond b (digits_on most (c - 48) (at + 1) t) Bad ≡ Is v p → Number v at p (c ∷ t)
+      by : decimal (c - 48) ≡ c ∷ [] → (b : Bool) → cond b (digits_on most (c - 48) (at + 1) t) None ≡ value_to v p → Number v at p (c ∷ t)
       by one true q = whole one (digits-only most v p (c - 48) (at + 1) t (omega (arith, w.least)) q)
       by one false q = absurd (bad-is q)
 
-  pub number-only : (t : List ℕ) → number_on most at t ≡ Is v p → Number v at p t
+  pub number-only : (t : List ℕ) → number_on most at t ≡ value_to v p → Number v at p t
   unfolding number_on
   number-only [] e = absurd (bad-is e)
   number-only (c ∷ t) e = by (is_within 49 57 c) refl e
     where
-      by : (b : Bool) → is_within 49 57 c ≡ b → cond b (digits_on most 0 at (c ∷ t)) Bad ≡ Is v p → Number v at p (c ∷ t)
+      by : (b : Bool) → is_within 49 57 c ≡ b → cond b (digits_on most 0 at (c ∷ t)) None ≡ value_to v p → Number v at p (c ∷ t)
       by true w q = first-only c t (within 49 57 c w) q
       by false w q = absurd (bad-is q)

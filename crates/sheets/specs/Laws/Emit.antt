@@ -1,8 +1,6 @@
 -- Bytes put one after the other are put as one run of bytes. Assumes nothing.
 use Rattle.std.specs.Prelude.{◌≡◌, refl, List, [], ◌∷◌, ◌++◌, ℕ, suc, ◌+◌, ◌-◌, ◌^◌, ◌≤◌, ◌<◌, length, get_or, set, drop}
-use Rattle.std.proofs.Common.{sym, ap, ◌∙◌, length-append, length-drop, drop_of_length-le, drop-cons}
-use Rattle.std.proofs.Math.Numerals.{add-one}
-use native.Mathlib.Omega.{arith}
+use Rattle.std.proofs.Common.{sym, ap, ◌∙◌, length-append, drop_of_length-le, drop-cons, add-one, arith}
 use Rattle.std.proofs.lemmas.List.Edits.{sets}
 use Rattle.std.proofs.Math.Seq.{length-sets}
 use Rattle.sheets.specs.Sheet.{value, line, entry_key, entries, joined}
@@ -64,18 +62,6 @@ module _ {before : List ℕ} {at : ℕ} {whole : List ℕ} where
     pub left-length : {rest : List ℕ} → Left before at whole buffer here rest → length buffer ≡ length before
     left-length {rest} l = sym (length-sets buffer here rest) ∙ sym (ap length l.stored) ∙ length-sets before at whole
 
--- ---- byte by byte
-
-module _ {before : List ℕ} {at : ℕ} {bytes buffer : List ℕ} {here i : ℕ} (l : Left before at bytes buffer here (drop i bytes)) where
-  pub byte-room : i < length bytes → Room at bytes → {b : ℕ} → Room here (b ∷ [])
-  byte-room h r = record { fits = let n : length (drop i bytes) ≡ length bytes - i = length-drop i bytes in omega (arith, l.place, r.fits) }
-
-  pub byte-on : {after : List ℕ} {to : ℕ} → i < length bytes → Emitted buffer here (get_or bytes i 0 ∷ []) to after → Left before at bytes after to (drop (i + 1) bytes)
-  byte-on h e = left-on (get_or bytes i 0 ∷ []) (drop (i + 1) bytes) (drop-cons bytes i 0 h ∙ ap (λ (k : ℕ). get_or bytes i 0 ∷ drop k bytes) (sym (add-one i))) l e
-
-  pub byte-end : length bytes ≤ i → Emitted before at bytes here buffer
-  byte-end h = left_end (rw (drop_of_length-le bytes h) at l)
-
 -- ---- entry by entry
 
 module _ (key : List ℕ) (first : ℕ) (vs : List ℕ) where
@@ -112,3 +98,6 @@ module _ (key : List ℕ) (first : ℕ) (vs : List ℕ) where
 
       pub entry-end : length vs ≤ i → Emitted before at all_lines here buffer
       entry-end h = left_end (rw (no_line i h) at l)
+
+-- how entries are put, step by step
+pub ruleset entries_steps = (entry-begin, entry-room, entry-on, entry-end)

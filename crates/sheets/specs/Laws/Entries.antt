@@ -1,17 +1,10 @@
 -- The value and the line of an entry are read back, and what is read as one is the one that is written. Assumes nothing.
-use Rattle.std.specs.Prelude.{◌≡◌, Bool, true, cond}
-use Rattle.std.proofs.Math.Path.{refl, ap}
-use Rattle.std.proofs.Common.{sym, ◌∙◌, ne_eqb}
-use Rattle.std.proofs.Math.Bool.{false}
-use mathlib.Core.List.{List, ◌∷◌, ◌++◌, append_assoc}
-use Prim.Native.Nat.{ℕ, zero, suc, ◌+◌, ◌≤◌, ◌<◌}
-use native.Mathlib.Omega.{arith}
-use Rattle.std.proofs.Math.ListN.{length, drop, length-append}
+use Rattle.std.specs.Prelude.{◌≡◌, Bool, true, cond, Option, Some, None, refl, false, List, ◌∷◌, ◌++◌, ℕ, zero, suc, ◌+◌, ◌≤◌, ◌<◌, length, drop}
+use Rattle.std.proofs.Common.{ap, sym, ◌∙◌, ne_eqb, append_assoc, arith, length-append}
 use Rattle.sheets.specs.declared.Value.{Value}
-use Rattle.sheets.specs.declared.Value.TheVariants.{Is, Bad}
 use Rattle.sheets.specs.Decimal.{digit, decimal}
 use Rattle.sheets.specs.Sheet.{equals, line_end, none_word, value, line}
-use Rattle.sheets.specs.Lines.{begins, stands, digits_on, number_on, value_at, ended_by, entry_at}
+use Rattle.sheets.specs.Lines.{begins, stands, value_to, digits_on, number_on, value_at, ended_by, entry_at}
 use Rattle.sheets.specs.Laws.Begins.{stands-true, stands_here, drop_past}
 use Rattle.sheets.specs.Laws.Digits.{First, first-of, number-back, Number, number-only, is-value, is-place, bad-is}
 
@@ -40,7 +33,7 @@ module _ (text : List ℕ) (at : ℕ) where
       by f = rw (here, f.whole) (digit-none f.first (f.others ++ t) f.most)
 
   -- a value is read back where LF comes after it
-  pub value-back : (v : ℕ) (rest : List ℕ) → v ≤ 65535 → drop at text ≡ value v ++ (line_end ++ rest) → value_at text at ≡ Is v (at + length (value v))
+  pub value-back : (v : ℕ) (rest : List ℕ) → v ≤ 65535 → drop at text ≡ value v ++ (line_end ++ rest) → value_at text at ≡ value_to v (at + length (value v))
   unfolding value_at digits_on
   value-back zero rest h here =
       rw (value_none, stands_here text at none_word (line_end ++ rest) (here ∙ ap (λ (k : List ℕ). k ++ (line_end ++ rest)) value_none))
@@ -50,7 +43,7 @@ module _ (text : List ℕ) (at : ℕ) where
       rw (value-some (suc v) l, some-not-none (suc v) (line_end ++ rest) l d, d) (number-back 65535 (suc v) at (line_end ++ rest) l h)
 
   -- what is read as a value is that value
-  pub value-only : (v p : ℕ) → value_at text at ≡ Is v p → drop at text ≡ value v ++ drop p text
+  pub value-only : (v p : ℕ) → value_at text at ≡ value_to v p → drop at text ≡ value v ++ drop p text
   unfolding value_at
   value-only v p e = by (stands text at none_word) refl e
     where
@@ -58,7 +51,7 @@ module _ (text : List ℕ) (at : ℕ) where
       number n =
           rw (value-some v n.some, n.place, drop_past text at (decimal v) n.rest n.split) n.split
 
-      by : (b : Bool) → stands text at none_word ≡ b → cond b (Is 0 (at + length none_word)) (number_on 65535 at (drop at text)) ≡ Is v p
+      by : (b : Bool) → stands text at none_word ≡ b → cond b (value_to 0 (at + length none_word)) (number_on 65535 at (drop at text)) ≡ value_to v p
           → drop at text ≡ value v ++ drop p text
       by true s q = rw (← is-value q, ← is-place q, value_none) (stands-true text at none_word s)
       by false s q = number (number-only 65535 v at p (drop at text) q)
@@ -79,7 +72,7 @@ module _ (text : List ℕ) (at : ℕ) (key : List ℕ) (v : ℕ) where
   abbrev value_place : ℕ
   value_place = at + length (key ++ equals)
 
-  pub entry-back : (rest : List ℕ) → v ≤ 65535 → drop at text ≡ line key (value v) ++ rest → entry_at text at key ≡ Is v (at + length (line key (value v)))
+  pub entry-back : (rest : List ℕ) → v ≤ 65535 → drop at text ≡ line key (value v) ++ rest → entry_at text at key ≡ value_to v (at + length (line key (value v)))
   unfolding entry_at
   entry-back rest h here =
       let k : drop at text ≡ (key ++ equals) ++ (value v ++ (line_end ++ rest)) = here ∙ line-parts key (value v) rest in
@@ -94,24 +87,27 @@ module _ (text : List ℕ) (at : ℕ) (key : List ℕ) (v : ℕ) where
       )
 
   -- a value that LF ends
-  ended-only : (u r p : ℕ) → drop value_place text ≡ value u ++ drop r text → (b : Bool) → stands text r line_end ≡ b → cond b (Is u (r + 1)) Bad ≡ Is v p
+  ended-only : (u r p : ℕ) → drop value_place text ≡ value u ++ drop r text → (b : Bool) → stands text r line_end ≡ b → cond b (value_to u (r + 1)) None ≡ value_to v p
       → drop value_place text ≡ value v ++ (line_end ++ drop p text)
   ended-only u r p d true s q =
       rw (← is-value q, ← is-place q) (d ∙ ap (λ (t : List ℕ). value u ++ t) (stands-true text r line_end s))
   ended-only u r p d false s q = absurd (bad-is q)
 
-  pub entry-only : (p : ℕ) → entry_at text at key ≡ Is v p → drop at text ≡ line key (value v) ++ drop p text
+  pub entry-only : (p : ℕ) → entry_at text at key ≡ value_to v p → drop at text ≡ line key (value v) ++ drop p text
   unfolding entry_at
   entry-only p e = by (stands text at (key ++ equals)) refl e
     where
-      valued : (w : Value) → value_at text value_place ≡ w → ended_by text w ≡ Is v p → drop value_place text ≡ value v ++ (line_end ++ drop p text)
-      valued Bad s q = absurd (bad-is q)
-      valued (Is u r) s q = ended-only u r p (value-only text value_place u r s) (stands text r line_end) refl q
+      valued : (w : Option Value) → value_at text value_place ≡ w → ended_by text w ≡ value_to v p → drop value_place text ≡ value v ++ (line_end ++ drop p text)
+      valued None s q = absurd (bad-is q)
+      valued (Some w) s q = ended-only w.number w.next p (value-only text value_place w.number w.next s) (stands text w.next line_end) refl q
 
-      by : (b : Bool) → stands text at (key ++ equals) ≡ b → cond b (ended_by text (value_at text value_place)) Bad ≡ Is v p
+      by : (b : Bool) → stands text at (key ++ equals) ≡ b → cond b (ended_by text (value_at text value_place)) None ≡ value_to v p
           → drop at text ≡ line key (value v) ++ drop p text
       by true s q =
           stands-true text at (key ++ equals) s
           ∙ ap (λ (t : List ℕ). (key ++ equals) ++ t) (valued (value_at text value_place) refl q)
           ∙ sym (line-parts key (value v) (drop p text))
       by false s q = absurd (bad-is q)
+
+-- how a value is written, by what it is
+pub ruleset value_steps = (value_none, value-some)

@@ -1,72 +1,104 @@
 -- Numbers, values and entries, read byte by byte. Assumes nothing.
-use Rattle.std.specs.Prelude.{◌≡◌, refl, true, false, cond, List, ◌∷◌, ◌++◌, ℕ, suc, ◌+◌, ◌-◌, ◌*◌, ◌≤◌, ◌<◌, length, get_or, drop}
-use Rattle.std.proofs.Math.Path.{sym, ap}
-use Rattle.std.proofs.Common.{◌∙◌, arith, drop_of_length-le, drop-cons}
-use Rattle.std.proofs.Math.Numerals.{add-one}
-use borrow.Author.Tests.{le-leb, lt-leb}
+use Rattle.std.specs.Prelude.{◌≡◌, refl, true, false, cond, Some, None, List, [], ◌∷◌, ◌++◌, ℕ, suc, ◌+◌, ◌-◌, ◌*◌, ◌≤◌, ◌<◌, length, get_or, drop}
+use Rattle.std.proofs.Common.{ap, ◌∙◌, arith, drop_of_length-le, drop-cons, add-one, le-leb}
+use Rattle.std.proofs.lemmas.Bool.{lt-leb}
 use Rattle.tables.specs.Size.{is_within}
-use Rattle.sheets.specs.declared.Value.TheVariants.{Is, Bad}
+use Rattle.sheets.specs.declared.Value.{Value}
 use Rattle.sheets.specs.Sheet.{equals, line_end, none_word}
-use Rattle.sheets.specs.Lines.{digits_on, number_on, value_at, ended_by, entry_at}
+use Rattle.sheets.specs.Lines.{value_to, digits_on, number_on, value_at, ended_by, entry_at}
 use Rattle.sheets.specs.Walk.{past_at}
-use Rattle.sheets.specs.Laws.Place.{on_past, past-cond}
+use Rattle.sheets.specs.Laws.Place.{past-then, past-else}
 
 -- ---- digits
 
--- the digits from `at` up to place write n, and those after them are still to be read
-pub record Digits (text : List ℕ) (most at n place : ℕ) : Type 0 where
+-- the first digits of t were read, up to place, and write n; the rest are still to be read
+pub record Digits (most at : ℕ) (t : List ℕ) (n place i : ℕ) : Type 0 where
   pub small : n ≤ most
-  pub same : digits_on most 0 at (drop at text) ≡ digits_on most n place (drop place text)
+  pub along : place ≡ at + i
+  pub same : digits_on most 0 at t ≡ digits_on most n place (drop i t)
 
-module _ {text : List ℕ} {most at : ℕ} where
-  pub digits-begin : Digits text most at 0 at
-  digits-begin = record { small = omega arith; same = refl }
+module _ {most at : ℕ} {t : List ℕ} {n place i : ℕ} (w : Digits most at t n place i) where
+  pub digits-end : length t ≤ i → digits_on most 0 at t ≡ value_to n place
+  unfolding digits_on
+  digits-end h = w.same ∙ ap (digits_on most n place) (drop_of_length-le t h)
 
-  module _ {n place : ℕ} (w : Digits text most at n place) where
-    pub digits-end : length text ≤ place → Is n place ≡ digits_on most 0 at (drop at text)
+  module _ (h : i < length t) where
+    byte : digits_on most 0 at t ≡ digits_on most n place (get_or t i 0 ∷ drop (suc i) t)
+    byte = w.same ∙ ap (digits_on most n place) (drop-cons t i 0 h)
+
+    pub digits-stop : is_within 48 57 (get_or t i 0) ≡ false → digits_on most 0 at t ≡ value_to n place
     unfolding digits_on
-    digits-end h = sym (w.same ∙ ap (digits_on most n place) (drop_of_length-le text h))
+    digits-stop d = byte ∙ rw d
 
-    module _ (h : place < length text) where
-      -- the number with the next digit
-      abbrev next : ℕ
-      next = n * 10 + (get_or text place 0 - 48)
-
-      byte : digits_on most 0 at (drop at text) ≡ digits_on most n place (get_or text place 0 ∷ drop (suc place) text)
-      byte = w.same ∙ ap (digits_on most n place) (drop-cons text place 0 h)
-
-      pub digits-stop : is_within 48 57 (get_or text place 0) ≡ false → Is n place ≡ digits_on most 0 at (drop at text)
+    module _ (d : is_within 48 57 (get_or t i 0) ≡ true) where
+      pub digits-over : most < n * 10 + (get_or t i 0 - 48) → digits_on most 0 at t ≡ None
       unfolding digits_on
-      digits-stop d = sym (byte ∙ rw d)
+      digits-over o = byte ∙ rw (d, lt-leb _ most o)
 
-      module _ (d : is_within 48 57 (get_or text place 0) ≡ true) where
-        pub digits-over : most < next → Bad ≡ digits_on most 0 at (drop at text)
-        unfolding digits_on
-        digits-over o = sym (byte ∙ rw (d, lt-leb next most o))
+      pub digits-on : n * 10 + (get_or t i 0 - 48) ≤ most → Digits most at t (n * 10 + (get_or t i 0 - 48)) (place + 1) (i + 1)
+      unfolding digits_on
+      digits-on o = record { small = o; along = omega (arith, w.along); same = byte ∙ rw (d, le-leb _ most o, add-one i) }
 
-        pub digits-on : next ≤ most → Digits text most at next (place + 1)
-        unfolding digits_on
-        digits-on o = record { small = o; same = byte ∙ rw (d, le-leb next most o, add-one place) }
+-- how digits are read, step by step
+pub ruleset digits_steps = (digits-end, digits-stop, digits-over, digits-on)
 
 -- ---- a number, a value, an entry
 
+module _ (most at : ℕ) where
+  opens : (t : List ℕ) → number_on most at t ≡ cond (is_within 49 57 (get_or t 0 0)) (digits_on most 0 at t) None
+  unfolding number_on
+  opens [] = refl
+  opens (c ∷ t) = refl
+
+  module _ (t : List ℕ) where
+    pub number-digits : 49 ≤ get_or t 0 0 → get_or t 0 0 ≤ 57 → number_on most at t ≡ digits_on most 0 at t
+    number-digits l h = opens t ∙ rw (le-leb 49 _ l, le-leb _ 57 h)
+
+    pub number-low : get_or t 0 0 < 49 → number_on most at t ≡ None
+    number-low h = opens t ∙ rw (lt-leb 49 _ h)
+
+    pub number-high : 57 < get_or t 0 0 → number_on most at t ≡ None
+    number-high h = opens t ∙ rw (le-leb 49 (get_or t 0 0) (omega arith), lt-leb _ 57 h)
+
+    -- nothing stands there
+    pub number-none : length t < 1 → number_on most at t ≡ None
+    number-none h = by t h
+      where
+        by : (t : List ℕ) → length t < 1 → number_on most at t ≡ None
+        by [] h = opens []
+        by (c ∷ t) h = absurd (omega arith)
+
 module _ (text : List ℕ) (at : ℕ) where
-  pub number-none : (most : ℕ) → length text ≤ at → Bad ≡ number_on most at (drop at text)
-  unfolding number_on
-  number-none most h = sym (ap (number_on most at) (drop_of_length-le text h))
-
-  pub number-first : (most : ℕ) → at < length text
-      → number_on most at (drop at text) ≡ cond (is_within 49 57 (get_or text at 0)) (digits_on most 0 at (drop at text)) Bad
-  unfolding number_on
-  number-first most h = rw (drop-cons text at 0 h)
-
-  pub value-by : value_at text at ≡ on_past (λ p. Is 0 p) (number_on 65535 at (drop at text)) (past_at text at none_word)
+  pub value-word : {p : ℕ} → past_at text at none_word ≡ Some p → value_at text at ≡ value_to 0 p
   unfolding value_at
-  value-by = past-cond text at none_word (λ p. Is 0 p) (number_on 65535 at (drop at text))
+  value-word e = past-then text at none_word (λ p. value_to 0 p) _ e
 
-  pub ended_by_lem : (v : ℕ) → ended_by text (Is v at) ≡ on_past (λ p. Is v p) Bad (past_at text at line_end)
-  ended_by_lem v = past-cond text at line_end (λ p. Is v p) Bad
+  pub value-number : past_at text at none_word ≡ None → value_at text at ≡ number_on 65535 at (drop at text)
+  unfolding value_at
+  value-number e = past-else text at none_word (λ p. value_to 0 p) _ e
 
-  pub entry-by : (k : List ℕ) → entry_at text at k ≡ on_past (λ p. ended_by text (value_at text p)) Bad (past_at text at (k ++ equals))
-  unfolding entry_at
-  entry-by k = past-cond text at (k ++ equals) (λ p. ended_by text (value_at text p)) Bad
+  module _ (k : List ℕ) where
+    pub entry-none : past_at text at (k ++ equals) ≡ None → entry_at text at k ≡ None
+    unfolding entry_at
+    entry-none e = past-else text at (k ++ equals) (λ p. ended_by text (value_at text p)) None e
+
+    module _ {p : ℕ} (e : past_at text at (k ++ equals) ≡ Some p) where
+      valued : entry_at text at k ≡ ended_by text (value_at text p)
+      unfolding entry_at
+      valued = past-then text at (k ++ equals) (λ p. ended_by text (value_at text p)) None e
+
+      pub entry-bad : value_at text p ≡ None → entry_at text at k ≡ None
+      entry-bad f = valued ∙ rw f
+
+      module _ {v : Value} (f : value_at text p ≡ Some v) where
+        pub entry-open : past_at text v.next line_end ≡ None → entry_at text at k ≡ None
+        entry-open g = valued ∙ rw f (past-else text v.next line_end (λ q. value_to v.number q) None g)
+
+        pub entry-ended : {q : ℕ} → past_at text v.next line_end ≡ Some q → entry_at text at k ≡ value_to v.number q
+        entry-ended g = valued ∙ rw f (past-then text v.next line_end (λ q. value_to v.number q) None g)
+
+-- how a number is read, step by step
+pub ruleset number_steps = (number-none, number-digits, number-low, number-high)
+
+-- how values and entries are read, step by step
+pub ruleset entry_steps = (value-word, value-number, entry-none, entry-bad, entry-open, entry-ended)

@@ -1,7 +1,6 @@
 -- What reading a sheet says is a number up to 15. Assumes nothing.
-use Rattle.std.specs.Prelude.{Bool, cond, List, [], ◌∷◌, ℕ, ◌≤◌, eqb, length, take, drop}
-use Rattle.std.proofs.Math.Bool.{true, false}
-use native.Mathlib.Omega.{arith}
+use Rattle.std.specs.Prelude.{Bool, cond, List, [], ◌∷◌, ℕ, ◌≤◌, eqb, length, take, drop, true, false}
+use Rattle.std.proofs.Common.{arith}
 use Rattle.tables.specs.declared.Sizes.{Sizes}
 use Rattle.tables.specs.Said.{Said, OK, SIZE}
 use Rattle.tables.specs.Size.{signing_fits}

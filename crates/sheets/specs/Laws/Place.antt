@@ -1,18 +1,15 @@
 -- Bytes that stand at a place: one after the other, and looked for byte by byte. Assumes nothing.
-use Rattle.std.specs.Prelude.{◌≡◌, Bool, ◌&&◌, ℕ, suc, ◌+◌, ◌/◌, ◌%◌, ◌≤◌, ◌<◌, eqb, get_or}
-use Rattle.std.proofs.Math.Path.{refl, ap}
-use Rattle.std.proofs.Common.{sym, ◌∙◌, add-one, drop_of_length-le, drop-cons, drop-drop, eq-eqb, ne_eqb, lt-ltb, le-ltb}
-use Rattle.std.proofs.Math.Bool.{true, false, cond}
-use mathlib.Core.List.{List, [], ◌∷◌, ◌++◌}
-use native.Mathlib.Omega.{arith}
-use Rattle.std.proofs.Math.ListN.{length, drop, length-append}
-use Rattle.sheets.specs.declared.Past.{Past}
-use Rattle.sheets.specs.declared.Past.TheVariants.{To, Missing}
+use Rattle.std.specs.Prelude.{◌≡◌, Bool, ◌&&◌, Some, None, ℕ, ◌+◌, ◌/◌, ◌%◌, ◌≤◌, ◌<◌, eqb, refl, true, false, cond, List, [], ◌∷◌, ◌++◌, length, drop}
+use Rattle.std.proofs.Common.{ap, sym, ◌∙◌, drop-drop, lt-ltb, le-ltb, arith, length-append}
+use Rattle.std.specs.List.{starts_with}
 use Rattle.sheets.specs.Decimal.{digit, decimal}
 use Rattle.sheets.specs.Sheet.{equals, line_end, line}
 use Rattle.sheets.specs.Lines.{begins, stands}
 use Rattle.sheets.specs.Walk.{past_at}
 use Rattle.sheets.specs.Laws.Decimal.{decimal_step}
+
+none-some : {p : ℕ} → None ≡ Some p → ⊥
+none-some e = let z : ◌≡◌ {A = ℕ} 0 1 = cc in omega arith
 
 -- ---- one after the other
 
@@ -32,104 +29,97 @@ module _ (text : List ℕ) (at : ℕ) (a b : List ℕ) where
   unfolding stands
   stands-append = begins-append a b (drop at text) ∙ ap (λ (t : List ℕ). begins a (drop at text) && begins b t) (drop-drop (length a) at text)
 
--- what f makes of the place after bytes, where they stand
-abbrev pub on_past : {A : Type 0} → (ℕ → A) → A → Past → A
-on_past f y Missing = y
-on_past f y (To at) = f at
+-- where bytes stand or not, the place after them
+past-stands : (text : List ℕ) (at : ℕ) (k : List ℕ) {p : ℕ} → past_at text at k ≡ Some p → (stands text at k ≡ true) × (at + length k ≡ p)
+unfolding past_at
+past-stands text at k {p} e = by (stands text at k) refl e
+  where
+    by : (d : Bool) → stands text at k ≡ d → cond d (Some (at + length k)) None ≡ Some p → (stands text at k ≡ true) × (at + length k ≡ p)
+    by true s q = (s, cc)
+    by false s q = absurd (none-some q)
 
-pub on-past-same : {A : Type 0} (f g : ℕ → A) (y : A) (r : Past) → ((at : ℕ) → f at ≡ g at) → on_past f y r ≡ on_past g y r
-on-past-same f g y Missing e = refl
-on-past-same f g y (To at) e = e at
+past-fails : (text : List ℕ) (at : ℕ) (k : List ℕ) → past_at text at k ≡ None → stands text at k ≡ false
+unfolding past_at
+past-fails text at k e = by (stands text at k) refl e
+  where
+    by : (d : Bool) → stands text at k ≡ d → cond d (Some (at + length k)) None ≡ None → stands text at k ≡ false
+    by true s q = absurd (none-some (sym q))
+    by false s q = s
 
-module _ (text : List ℕ) (at : ℕ) where
-  -- a test of what stands at a place is the place after it
-  pub past-cond : {A : Type 0} (k : List ℕ) (f : ℕ → A) (y : A) → cond (stands text at k) (f (at + length k)) y ≡ on_past f y (past_at text at k)
+module _ (text : List ℕ) (at : ℕ) (k : List ℕ) {A : Type 0} (f : ℕ → A) (y : A) where
+  -- what is made of the place after them
+  pub past-then : {p : ℕ} → past_at text at k ≡ Some p → cond (stands text at k) (f (at + length k)) y ≡ f p
+  past-then e = rw ((past-stands text at k e).0, (past-stands text at k e).1)
+
+  pub past-else : past_at text at k ≡ None → cond (stands text at k) (f (at + length k)) y ≡ y
+  past-else e = rw (past-fails text at k e)
+
+module _ (text : List ℕ) (at : ℕ) (a b : List ℕ) where
+  -- bytes one after the other are looked for one after the other
+  pub past-first : past_at text at a ≡ None → past_at text at (a ++ b) ≡ None
   unfolding past_at
-  past-cond k f y = by (stands text at k)
-    where
-      by : (d : Bool) → cond d (f (at + length k)) y ≡ on_past f y (cond d (To (at + length k)) Missing)
-      by true = refl
-      by false = refl
+  past-first e = rw (stands-append text at a b, past-fails text at a e)
 
-  pub past-append : (a b : List ℕ) → past_at text at (a ++ b) ≡ on_past (λ p. past_at text p b) Missing (past_at text at a)
+  pub past-next : {p : ℕ} → past_at text at a ≡ Some p → past_at text at (a ++ b) ≡ past_at text p b
   unfolding past_at
-  past-append a b = rw (stands-append text at a b, length-append a b) (by (stands text at a))
-    where
-      far : at + (length a + length b) ≡ at + length a + length b
-      far = omega arith
+  past-next {p} e =
+      let s = past-stands text at a e in
+      let l : at + (length a + length b) ≡ p + length b = omega (arith, s.1) in
+      rw (stands-append text at a b, s.0, s.1, length-append a b, l)
 
-      by : (d : Bool)
-          → cond (d && stands text (at + length a) b) (To (at + (length a + length b))) Missing
-          ≡ on_past (λ p. cond (stands text p b) (To (p + length b)) Missing) Missing (cond d (To (at + length a)) Missing)
-      by true = rw far
-      by false = refl
+-- ---- a line: its key, `=`, its value, LF
 
-module _ (text : List ℕ) (at : ℕ) where
-  -- a line: its key, `=`, its value, LF
-  pub past-line : (key v : List ℕ)
-      → past_at text at (line key v)
-      ≡ on_past (λ p. on_past (λ q. on_past (λ r. past_at text r line_end) Missing (past_at text q v)) Missing (past_at text p equals)) Missing (past_at text at key)
+module _ (text : List ℕ) (at : ℕ) (key v : List ℕ) where
+  pub line-none : past_at text at key ≡ None → past_at text at (line key v) ≡ None
   unfolding line
-  past-line key v =
-      past-append text at key (equals ++ (v ++ line_end))
-      ∙ on-past-same _ _ Missing (past_at text at key) (λ p.
-      past-append text p equals (v ++ line_end)
-      ∙ on-past-same _ _ Missing (past_at text p equals) (λ q. past-append text q v line_end))
+  line-none e = past-first text at key (equals ++ (v ++ line_end)) e
 
--- ---- byte by byte
+  module _ {p : ℕ} (e : past_at text at key ≡ Some p) where
+    keyed : past_at text at (line key v) ≡ past_at text p (equals ++ (v ++ line_end))
+    unfolding line
+    keyed = past-next text at key (equals ++ (v ++ line_end)) e
 
--- the bytes of the key before i stand from `at` up to place
-pub record Skipping (text key : List ℕ) (at place i : ℕ) : Type 0 where
-  pub along : place ≡ at + i
-  pub upto : i ≤ length key
-  pub same : stands text at key ≡ begins (drop i key) (drop place text)
+    pub line-open : past_at text p equals ≡ None → past_at text at (line key v) ≡ None
+    line-open f = keyed ∙ past-first text p equals (v ++ line_end) f
 
-module _ {text key : List ℕ} {at : ℕ} where
-  pub skip-begin : Skipping text key at at 0
-  unfolding stands
-  skip-begin = record { along = omega arith; upto = omega arith; same = refl }
+    module _ {q : ℕ} (f : past_at text p equals ≡ Some q) where
+      pub line-other : past_at text q v ≡ None → past_at text at (line key v) ≡ None
+      line-other g = keyed ∙ past-next text p equals (v ++ line_end) f ∙ past-first text q v line_end g
 
-  module _ {place i : ℕ} (w : Skipping text key at place i) where
-    -- the key's next byte is asked of what is left of the text
-    asked : i < length key → stands text at key ≡ begins (get_or key i 0 ∷ drop (suc i) key) (drop place text)
-    asked h = w.same ∙ ap (λ (k : List ℕ). begins k (drop place text)) (drop-cons key i 0 h)
+      pub line-valued : {r : ℕ} → past_at text q v ≡ Some r → past_at text at (line key v) ≡ past_at text r line_end
+      line-valued g = keyed ∙ past-next text p equals (v ++ line_end) f ∙ past-next text q v line_end g
 
-    byte : i < length key → place < length text → stands text at key ≡ (eqb (get_or key i 0) (get_or text place 0) && begins (drop (suc i) key) (drop (suc place) text))
-    unfolding begins
-    byte h k = asked h ∙ ap (begins (get_or key i 0 ∷ drop (suc i) key)) (drop-cons text place 0 k)
+-- ---- as code looks for them
 
-    pub skip-over : i < length key → length text ≤ place → Missing ≡ past_at text at key
-    unfolding past_at begins
-    skip-over h k =
-        let e : stands text at key ≡ false = asked h ∙ ap (begins (get_or key i 0 ∷ drop (suc i) key)) (drop_of_length-le text k) in
-        rw e
+-- the bytes that a text begins with, as std compares them
+begins-with : (k t : List ℕ) → begins k t ≡ starts_with eqb t k
+unfolding begins
+begins-with [] t = refl
+begins-with (b ∷ k) [] = refl
+begins-with (b ∷ k) (c ∷ t) = ap (λ (r : Bool). eqb b c && r) (begins-with k t)
 
-    pub skip-other : i < length key → place < length text → (get_or text place 0 ≡ get_or key i 0 → ⊥) → Missing ≡ past_at text at key
-    unfolding past_at
-    skip-other h k n =
-        let e : stands text at key ≡ false = byte h k ∙ rw (ne_eqb (get_or key i 0) (get_or text place 0) (λ q. n (sym q))) in
-        rw e
+module _ (text : List ℕ) (at : ℕ) (k : List ℕ) {b : Bool} (e : b ≡ starts_with eqb (drop at text) k) where
+  found_at : past_at text at k ≡ cond b (Some (at + length k)) None
+  unfolding past_at stands
+  found_at = rw (begins-with k (drop at text), e)
 
-    pub skip-on : i < length key → place < length text → get_or text place 0 ≡ get_or key i 0 → Skipping text key at (place + 1) (i + 1)
-    skip-on h k q =
-        record {
-          along = omega (arith, w.along);
-          upto = omega arith;
-          same = byte h k ∙ rw (eq-eqb (get_or key i 0) (get_or text place 0) (sym q), add-one place, add-one i);
-        }
+  pub found : b ≡ true → past_at text at k ≡ Some (at + length k)
+  found h = found_at ∙ rw h
 
-    pub skip-end : length key ≤ i → To place ≡ past_at text at key
-    unfolding past_at begins
-    skip-end h =
-        let e : stands text at key ≡ true = w.same ∙ ap (λ (k : List ℕ). begins k (drop place text)) (drop_of_length-le key h) in
-        let p : place ≡ at + length key = omega (arith, w.along, w.upto) in
-        rw (e, p)
+  pub missing : b ≡ false → past_at text at k ≡ None
+  missing h = found_at ∙ rw h
 
 -- ---- the digits of a number
 
 module _ (text : List ℕ) (at n : ℕ) where
-  pub past-digit : n < 10 → past_at text at (digit n ∷ []) ≡ past_at text at (decimal n)
+  pub past-digit : n < 10 → past_at text at (decimal n) ≡ past_at text at (digit n ∷ [])
   past-digit h = rw (decimal_step n, lt-ltb n 10 h)
 
-  pub past-digits : 10 ≤ n → on_past (λ p. past_at text p (digit (n % 10) ∷ [])) Missing (past_at text at (decimal (n / 10))) ≡ past_at text at (decimal n)
-  past-digits h = rw (decimal_step n, le-ltb n 10 h) (sym (past-append text at (decimal (n / 10)) (digit (n % 10) ∷ [])))
+  pub past-tenth : 10 ≤ n → past_at text at (decimal (n / 10)) ≡ None → past_at text at (decimal n) ≡ None
+  past-tenth h e = rw (decimal_step n, le-ltb n 10 h) (past-first text at (decimal (n / 10)) (digit (n % 10) ∷ []) e)
+
+  pub past-last : {p : ℕ} → 10 ≤ n → past_at text at (decimal (n / 10)) ≡ Some p → past_at text at (decimal n) ≡ past_at text p (digit (n % 10) ∷ [])
+  past-last h e = rw (decimal_step n, le-ltb n 10 h) (past-next text at (decimal (n / 10)) (digit (n % 10) ∷ []) e)
+
+-- how bytes are looked for, step by step
+pub ruleset past_steps = (past-first, past-next, past-digit, past-tenth, past-last, line-none, line-open, line-other, line-valued)

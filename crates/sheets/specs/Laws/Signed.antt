@@ -1,10 +1,6 @@
 -- What a signing is that fits and that SIGN does not refuse: its entries can be written, and that of T is 0. Assumes nothing.
-use Rattle.std.specs.Prelude.{◌≡◌, List, [], ◌∷◌, ◌++◌, ℕ, zero, suc, ◌+◌, ◌-◌, ◌≤◌, ◌<◌}
-use Rattle.std.proofs.Math.Path.{ap}
-use Rattle.std.proofs.Common.{◌∙◌, length-drop, get_or-drop}
-use native.Mathlib.Omega.{arith}
-use Rattle.std.proofs.Math.ListN.{length, drop, get_or}
-use Rattle.std.proofs.Math.Seq.{drop-cons}
+use Rattle.std.specs.Prelude.{◌≡◌, List, [], ◌∷◌, ◌++◌, ℕ, zero, suc, ◌+◌, ◌-◌, ◌≤◌, ◌<◌, length, drop, get_or}
+use Rattle.std.proofs.Common.{ap, ◌∙◌, length-drop, get_or-drop, arith, drop-cons}
 use Rattle.tables.specs.declared.Sizes.{Sizes}
 use Rattle.tables.specs.Signing.{signing}
 use Rattle.tables.specs.Laws.Numbers.{sign-means}

@@ -1,16 +1,10 @@
 -- Lines with these values are read back, and a text whose lines tell these values is those lines. Assumes nothing.
-use Rattle.std.specs.Prelude.{◌≡◌, Bool, ℕ, suc, ◌+◌, ◌-◌, ◌≤◌, drop, get_or}
-use Rattle.std.proofs.Math.Path.{refl, sym, ap}
-use Rattle.std.proofs.Common.{◌∙◌, arith, length-append, length-drop, eq-eqb, eqb-true}
-use Rattle.std.proofs.Math.Bool.{true, false, cond}
-use mathlib.Core.List.{List, [], ◌∷◌, ◌++◌}
-use Rattle.std.proofs.Math.Dec.{eqb}
-use Rattle.std.proofs.Math.ListN.{length}
+use Rattle.std.specs.Prelude.{◌≡◌, Bool, Option, Some, None, ℕ, suc, ◌+◌, ◌-◌, ◌≤◌, drop, get_or, refl, true, false, cond, List, [], ◌∷◌, ◌++◌, eqb, length}
+use Rattle.std.proofs.Common.{sym, ap, ◌∙◌, arith, length-append, length-drop, eq-eqb, eqb-true}
 use Rattle.std.proofs.Math.Seq.{drop-length}
 use Rattle.sheets.specs.declared.Value.{Value}
-use Rattle.sheets.specs.declared.Value.TheVariants.{Is, Bad}
 use Rattle.sheets.specs.Sheet.{value, line}
-use Rattle.sheets.specs.Lines.{stands, entry_at, Want, exactly, keyed, Told, values, bad_line, and_then, told, lines_from}
+use Rattle.sheets.specs.Lines.{stands, value_to, entry_at, Want, exactly, keyed, Told, values, bad_line, and_then, told, lines_from}
 use Rattle.sheets.specs.Laws.Begins.{stands-true, stands_here, drop_past}
 use Rattle.sheets.specs.Laws.Entries.{entry-back, entry-only}
 
@@ -74,7 +68,7 @@ module _ (text : List ℕ) where
   told-bad e = let z : ◌≡◌ {A = ℕ} 0 1 = cc in omega arith
 
   -- the values of a keyed line and of those after it
-  keyed-only : (k : List ℕ) (ws : List Want) (vs : List ℕ) (at v p : ℕ) → entry_at text at k ≡ Is v p → (t : Told) → ((us : List ℕ) → t ≡ values us → Spelled ws p us)
+  keyed-only : (k : List ℕ) (ws : List Want) (vs : List ℕ) (at v p : ℕ) → entry_at text at k ≡ value_to v p → (t : Told) → ((us : List ℕ) → t ≡ values us → Spelled ws p us)
       → and_then v t ≡ values vs → Spelled (keyed k ∷ ws) at vs
   unfolding text_of keyed_of
   keyed-only k ws vs at v p e (bad_line n) r q = absurd (told-bad q)
@@ -103,7 +97,7 @@ module _ (text : List ℕ) where
       by false s r q = absurd (told-bad q)
   told-only (keyed k ∷ ws) vs n at e = by (entry_at text at k) refl (λ us p. told-only ws us (n + 1) p) e
     where
-      by : (w : Value) → entry_at text at k ≡ w → ((us : List ℕ) (p : ℕ) → lines_from text ws (n + 1) p ≡ values us → Spelled ws p us)
+      by : (w : Option Value) → entry_at text at k ≡ w → ((us : List ℕ) (p : ℕ) → lines_from text ws (n + 1) p ≡ values us → Spelled ws p us)
           → told n w (lines_from text ws (n + 1)) ≡ values vs → Spelled (keyed k ∷ ws) at vs
-      by Bad s r q = absurd (told-bad q)
-      by (Is v p) s r q = keyed-only k ws vs at v p s (lines_from text ws (n + 1) p) (λ us. r us p) q
+      by None s r q = absurd (told-bad q)
+      by (Some w) s r q = keyed-only k ws vs at w.number w.next s (lines_from text ws (n + 1) w.next) (λ us. r us w.next) q

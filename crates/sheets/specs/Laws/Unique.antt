@@ -1,11 +1,6 @@
 -- A text that is read is the one text of what it means. Assumes nothing.
-use Rattle.std.proofs.Math.Path.{◌≡◌, refl, ap}
-use Rattle.std.proofs.Common.{sym, ◌∙◌, take-append-drop, eqb-true}
-use Rattle.std.specs.Prelude.{Bool, List, [], ◌∷◌, ℕ, ◌+◌, ◌-◌, ◌≤◌, eqb, take}
-use Rattle.std.proofs.Math.Bool.{true, false, cond}
-use native.Mathlib.Omega.{arith}
-use Rattle.std.proofs.Math.ListN.{length, drop, length-drop}
-use Rattle.std.proofs.Math.Seq.{length-take-le}
+use Rattle.std.specs.Prelude.{◌≡◌, refl, Bool, List, [], ◌∷◌, ℕ, ◌+◌, ◌-◌, ◌≤◌, eqb, take, true, false, cond, length, drop}
+use Rattle.std.proofs.Common.{ap, sym, ◌∙◌, take-append-drop, eqb-true, arith, length-drop, length-take-le}
 use Rattle.std.proofs.lemmas.Bool.{eqb-false}
 use Rattle.tables.specs.declared.Sizes.{Sizes}
 use Rattle.tables.specs.Said.{Said, OK, SIZE}

@@ -1,9 +1,6 @@
 -- The text of a signing is the lines that a sheet must have, with the signing's entries for values. Assumes nothing.
-use Rattle.std.specs.Prelude.{◌≡◌, refl, ℕ, zero, suc, ◌+◌, ◌-◌, length}
-use Rattle.std.proofs.Math.Path.{sym, ap}
-use Rattle.std.proofs.Common.{◌∙◌, arith}
-use mathlib.Core.List.{List, [], ◌∷◌, ◌++◌, append_assoc}
-use Rattle.std.proofs.Math.ListN.{drop}
+use Rattle.std.specs.Prelude.{◌≡◌, refl, ℕ, zero, suc, ◌+◌, ◌-◌, length, List, [], ◌∷◌, ◌++◌, drop}
+use Rattle.std.proofs.Common.{sym, ap, ◌∙◌, arith, append_assoc}
 use Rattle.tables.specs.declared.Sizes.{Sizes}
 use Rattle.sheets.specs.Sheet.{state_key, goto_key, entry_key, value, line, header, entries, joined, sheet_lines, sheet_text}
 use Rattle.sheets.specs.Lines.{Want, entry_wants, exact_wants, wants}

@@ -1,12 +1,8 @@
 -- What the writer leaves, told by the judgement, by the length of the text and by the bytes that were put. Assumes nothing.
-use Rattle.std.specs.Prelude.{◌≡◌, Bool, List, [], ◌∷◌, ◌++◌, ℕ, ◌+◌, ◌≤◌, ◌<◌}
-use Rattle.std.proofs.Math.Path.{refl, ap}
-use Rattle.std.proofs.Common.{◌∙◌}
-use Rattle.std.proofs.Math.Bool.{true, false}
-use native.Mathlib.Omega.{arith}
-use Rattle.std.proofs.Math.ListN.{length, drop}
+use Rattle.std.specs.Prelude.{◌≡◌, Bool, List, [], ◌∷◌, ◌++◌, ℕ, ◌+◌, ◌≤◌, ◌<◌, refl, true, false, length, drop}
+use Rattle.std.proofs.Common.{ap, ◌∙◌, arith, le-leb, ne_eqb}
 use Rattle.std.proofs.Math.Seq.{sets, sets-eq}
-use borrow.Author.Tests.{le-leb, lt-leb, ne_eqb}
+use Rattle.std.proofs.lemmas.Bool.{lt-leb}
 use Rattle.tables.specs.declared.Sizes.{Sizes}
 use Rattle.tables.specs.Said.{Said, OK, TEXT}
 use Rattle.tables.specs.Size.{signing_fits}

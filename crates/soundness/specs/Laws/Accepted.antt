@@ -1,14 +1,14 @@
 -- What the plain machine accepts over a table that the check passes is yielded by the start symbol. Assumes nothing.
-use Rattle.std.specs.Prelude.{◌≡◌, refl, Bool, cond, List, [], ◌∷◌, reverse, ℕ, ℤ, length}
+use Rattle.std.specs.Prelude.{◌≡◌, refl, Bool, cond, List, [], ◌∷◌, reverse, ℕ, ℤ, length, Ok, Err, true, false}
 use Rattle.std.proofs.Common.{subst, arith}
-use Rattle.std.proofs.Math.Bool.{true, false}
 use Rattle.tables.specs.declared.Sizes.{Sizes}
 use Rattle.tables.specs.Said.{OK, SIZE}
 use Rattle.tables.specs.Grammar.{Grammar, grammar}
 use Rattle.tables.specs.Judgement.{judgement}
-use Rattle.machine.specs.declared.Answer.{Answer}
-use Rattle.machine.specs.declared.Answer.TheVariants.{Accepted, Token, Syntax, Underflow, NoGoto, Stack, Output, Moves, BadCell}
-use Rattle.machine.specs.Reads.{Reads, plain_reads}
+use Rattle.machine.specs.Types.{Answer}
+use Rattle.machine.specs.declared.Stop.TheVariants.{Token, Syntax, Underflow, NoGoto, Stack, Output, Moves, BadCell}
+use Rattle.reads.specs.Reads.{Reads}
+use Rattle.machine.specs.Reads.{plain_reads}
 use Rattle.machine.specs.Machine.{Result, parse}
 use Rattle.machine.specs.Outcome.{answer_of, unchanged, leaves, job_fits, job, judged_then, plain_parse}
 use Rattle.soundness.specs.Derivation.{Terminals, Rightmost}
@@ -20,16 +20,16 @@ use Rattle.soundness.specs.Laws.Demand.{passed-right}
 use Rattle.soundness.specs.Laws.Yields.{Yields, rightmost-yields}
 
 -- 0 is said of what is accepted
-said-accepted : (a : Answer) (moves : ℕ) → (answer_of a moves).number ≡ 0 → (n : ℕ) × (a ≡ Accepted n)
-said-accepted (Accepted n) moves e = (n, refl)
-said-accepted (Token i) moves e = absurd (omega arith)
-said-accepted (Syntax i) moves e = absurd (omega arith)
-said-accepted (Underflow i r) moves e = absurd (omega arith)
-said-accepted (NoGoto i r) moves e = absurd (omega arith)
-said-accepted (Stack i) moves e = absurd (omega arith)
-said-accepted (Output i) moves e = absurd (omega arith)
-said-accepted (Moves i) moves e = absurd (omega arith)
-said-accepted (BadCell x) moves e = absurd (omega arith)
+said-accepted : (a : Answer) (moves : ℕ) → (answer_of a moves).number ≡ 0 → (n : ℕ) × (a ≡ Ok n)
+said-accepted (Ok n) moves e = (n, refl)
+said-accepted (Err (Token i)) moves e = absurd (omega arith)
+said-accepted (Err (Syntax i)) moves e = absurd (omega arith)
+said-accepted (Err (Underflow i r)) moves e = absurd (omega arith)
+said-accepted (Err (NoGoto i r)) moves e = absurd (omega arith)
+said-accepted (Err (Stack i)) moves e = absurd (omega arith)
+said-accepted (Err (Output i)) moves e = absurd (omega arith)
+said-accepted (Err (Moves i)) moves e = absurd (omega arith)
+said-accepted (Err (BadCell x)) moves e = absurd (omega arith)
 
 module _ (z : Sizes) (states : ℕ) (left lens rights : List ℕ) (table : List ℤ) (srule sgoto : List ℕ)
     (passed : checked z states left lens rights table srule sgoto ≡ OK []) (tokens : List ℕ) (limit : ℕ) (stack list : List ℕ) where
@@ -50,7 +50,7 @@ module _ (z : Sizes) (states : ℕ) (left lens rights : List ℕ) (table : List 
   unfolding plain_parse judged_then
   said-is = rw good
 
-  ran-yields : (n : ℕ) → ran.answer ≡ Accepted n → Yields g (g.T ∷ []) tokens
+  ran-yields : (n : ℕ) → ran.answer ≡ Ok n → Yields g (g.T ∷ []) tokens
   ran-yields n e =
       let d : (n ≡ length ran.made) × Terminals g.T tokens × Rightmost g (g.T ∷ []) (reverse ran.made) tokens =
       subst (λ (x : Answer). Right g tokens x ran.made) e (passed-right z states left lens rights table srule sgoto passed (job tokens stack list) limit) in
@@ -58,7 +58,7 @@ module _ (z : Sizes) (states : ℕ) (left lens rights : List ℕ) (table : List 
 
   ok-yields : (b : Bool) → (cond b (leaves ran stack list) (unchanged SIZE stack list)).said.number ≡ 0 → Yields g (g.T ∷ []) tokens
   unfolding leaves unchanged
-  ok-yields true e = let a : (n : ℕ) × (ran.answer ≡ Accepted n) = said-accepted ran.answer ran.moves e in ran-yields a.0 a.1
+  ok-yields true e = let a : (n : ℕ) × (ran.answer ≡ Ok n) = said-accepted ran.answer ran.moves e in ran-yields a.0 a.1
   ok-yields false e = absurd (omega arith)
 
   -- where OK is said, the start symbol yields the tokens

@@ -1,21 +1,14 @@
 -- What the check works out is the verdict. Assumes nothing.
-use Rattle.std.proofs.Math.Path.{◌≡◌, refl}
-use Rattle.std.proofs.Common.{sym, subst, ⊎_elim}
-use Rattle.std.specs.Prelude.{◌≢◌, Bool, List, [], ◌∷◌, reverse}
-use Rattle.std.proofs.Math.Bool.{true, false}
-use Prim.Native.Nat.{ℕ, zero, suc, ◌≤◌, ◌<◌}
-use native.Mathlib.Omega.{arith}
-use Rattle.std.proofs.Math.Dec.{eqb}
-use borrow.Author.Tests.{eqb-true, eqb-false}
-use Rattle.tables.specs.declared.Lowest.{Lowest}
-use Rattle.tables.specs.declared.Lowest.TheVariants.{At, Nowhere}
+use Rattle.std.proofs.Common.{sym, subst, ⊎_elim, arith, eqb-true}
+use Rattle.std.specs.Prelude.{◌≢◌, Bool, List, [], ◌∷◌, reverse, Option, Some, None, ◌≡◌, refl, true, false, ℕ, zero, suc, ◌≤◌, ◌<◌, eqb}
+use Rattle.std.proofs.lemmas.Bool.{eqb-false}
 use Rattle.tables.specs.Lists.{among}
 use Rattle.tables.specs.Grammar.{Grammar}
 use Rattle.tables.specs.Laws.Tests.{clash}
 use Rattle.tables.specs.Verdict.{Least}
 use Rattle.tables.specs.Laws.Lowest.{at_least, nowhere-passed}
 use Rattle.tables.specs.Laws.Members.{among-from, among_in}
-use Rattle.machine.specs.Reads.{Reads}
+use Rattle.reads.specs.Reads.{Reads}
 use Rattle.soundness.specs.Path.{PathTo, Reach}
 use Rattle.soundness.specs.Verdict.{Reduces, Handle, Verdict, sound, unsound, IsVerdict}
 use Rattle.soundness.specs.Check.{Arc, arcs, reached, spells, may_precede, keeps, rules_at, rule_fault, state_fault, or_fault, least_fault, verdict_of, verdict_by, verdict_from, verdict}
@@ -27,18 +20,18 @@ use Rattle.soundness.specs.Laws.Handle.{Precedes, tail-handle, handle-tail, may_
 -- ---- the least fault
 
 -- what is said of the states below n
-abbrev Finds : (ℕ → Lowest) → ℕ → Verdict → Type 0
-Finds fault n sound = (k : ℕ) → k < n → fault k ≡ Nowhere
-Finds fault n (unsound s r) = (s < n) × ((i : ℕ) × (r ≡ suc i) × (fault s ≡ At i)) × ((k : ℕ) → k < s → fault k ≡ Nowhere)
+abbrev Finds : (ℕ → Option ℕ) → ℕ → Verdict → Type 0
+Finds fault n sound = (k : ℕ) → k < n → fault k ≡ None
+Finds fault n (unsound s r) = (s < n) × ((i : ℕ) × (r ≡ suc i) × (fault s ≡ Some i)) × ((k : ℕ) → k < s → fault k ≡ None)
 
-module _ (fault : ℕ → Lowest) where
-  finds-more : (n : ℕ) (w : Verdict) → Finds fault n w → (l : Lowest) → fault n ≡ l → Finds fault (suc n) (or_fault w l n)
+module _ (fault : ℕ → Option ℕ) where
+  finds-more : (n : ℕ) (w : Verdict) → Finds fault n w → (l : Option ℕ) → fault n ≡ l → Finds fault (suc n) (or_fault w l n)
   unfolding or_fault
   finds-more n (unsound s r) f l q = (omega (arith, f.0), f.1, f.2)
-  finds-more n sound f (At i) q = (omega arith, (i, refl, q), f)
-  finds-more n sound f Nowhere q = λ k h. by k h (eqb k n) refl
+  finds-more n sound f (Some i) q = (omega arith, (i, refl, q), f)
+  finds-more n sound f None q = λ k h. by k h (eqb k n) refl
     where
-      by : (k : ℕ) → k < suc n → (b : Bool) → eqb k n ≡ b → fault k ≡ Nowhere
+      by : (k : ℕ) → k < suc n → (b : Bool) → eqb k n ≡ b → fault k ≡ None
       by k h true e = rw (eqb-true k n e) q
       by k h false e = f k (let d : k ≢ n = eqb-false k n e in omega arith)
 
@@ -95,13 +88,13 @@ module _ {g : Grammar} {u : Reads} {es : List Arc} (edges : Live g u es) (v : Re
       at true q k = (rules-from g v s (among-from r (rules_at g v s) q), by (ended r) k (ends r))
       at false q k = absurd (clash refl k)
 
-  row_kept : RulesIn g v → rule_fault g u es s (rules_at g v s) ≡ Nowhere → (r : ℕ) → Reduces g v s r → AllHandles g u r s
+  row_kept : RulesIn g v → rule_fault g u es s (rules_at g v s) ≡ None → (r : ℕ) → Reduces g v s r → AllHandles g u r s
   unfolding rule_fault
   row_kept within e zero k = absurd (omega (arith, (within s zero k).0))
   row_kept within e (suc i) k = rule-kept (suc i) (nowhere-passed (λ i. passed (suc i)) g.G e i (within s (suc i) k).1) k
 
   -- the rule i + 1 fails, and none below it
-  row-broken : RulesIn g v → (i : ℕ) → rule_fault g u es s (rules_at g v s) ≡ At i
+  row-broken : RulesIn g v → (i : ℕ) → rule_fault g u es s (rules_at g v s) ≡ Some i
       → Reduces g v s (suc i) × Breaks g u (suc i) s × ((q : ℕ) → q < suc i → Reduces g v s q → AllHandles g u q s)
   unfolding rule_fault
   row-broken within i e =
@@ -118,21 +111,21 @@ module _ (g : Grammar) (u v : Reads) (states : ℕ) (bounded : Bounded g u state
   there = reached (arcs g u states) states
 
   module _ {es : List Arc} (edges : Live g u es) where
-    abbrev fault : ℕ → Lowest
+    abbrev fault : ℕ → Option ℕ
     fault s = state_fault g u v es s (among s there)
 
-    state-kept : (s : ℕ) → fault s ≡ Nowhere → (r : ℕ) → Reduces g v s r → AllHandles g u r s
+    state-kept : (s : ℕ) → fault s ≡ None → (r : ℕ) → Reduces g v s r → AllHandles g u r s
     unfolding state_fault
     state-kept s e r k ss xs w =
         let reach : Reach g u s = record { states = ss; symbols = xs; path = w } in
         row_kept edges v reach within (rw (among_in s there (path-reached bounded reach)) at e) r k ss xs w
 
-    state-broken : (s i : ℕ) → fault s ≡ At i
+    state-broken : (s i : ℕ) → fault s ≡ Some i
         → Reduces g v s (suc i) × Breaks g u (suc i) s × ((q : ℕ) → q < suc i → Reduces g v s q → AllHandles g u q s)
     unfolding state_fault
     state-broken s i e = by (among s there) refl e
       where
-        by : (b : Bool) → among s there ≡ b → state_fault g u v es s b ≡ At i
+        by : (b : Bool) → among s there ≡ b → state_fault g u v es s b ≡ Some i
             → Reduces g v s (suc i) × Breaks g u (suc i) s × ((q : ℕ) → q < suc i → Reduces g v s q → AllHandles g u q s)
         by true q k = row-broken edges v (reached-path bounded (among-from s there q)) within i k
         by false q k = let z : ◌≡◌ {A = ℕ} 0 1 = cc in absurd (omega arith)

@@ -2,7 +2,7 @@
 use Rattle.std.specs.Prelude.{◌≡◌, refl, ◌≢◌, List, [], ◌∷◌, ◌++◌, ℕ}
 use Rattle.std.proofs.Common.{arith}
 use Rattle.tables.specs.Grammar.{Grammar}
-use Rattle.machine.specs.Reads.{Reads}
+use Rattle.reads.specs.Reads.{Reads}
 use Rattle.soundness.specs.Path.{Edge, PathTo, here, along, Reach}
 use Rattle.soundness.specs.Laws.Tail.{Tail, tail-nil, tail-nil⁻, tail-cons, tail-cons⁻, Failing}
 

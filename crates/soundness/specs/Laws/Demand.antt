@@ -1,19 +1,16 @@
 -- What a passed check gives of the plain machine's parse, as it is said and left. Assumes nothing.
-use Rattle.std.specs.Prelude.{◌≡◌, ◌≢◌, ◌⊎◌, Bool, cond, List, [], ◌∷◌, ◌++◌, reverse, ℕ, ◌-◌, ◌≤◌, ℤ, get_or, take, replicate}
-use Rattle.std.proofs.Math.Path.{refl, subst}
-use Rattle.std.proofs.Common.{sym, ap, ◌∙◌, inl, inr, ne_eqb}
-use Rattle.std.proofs.Math.Bool.{true, false}
-use native.Mathlib.Omega.{arith}
-use Rattle.std.proofs.Math.ListN.{length}
+use Rattle.std.specs.Prelude.{◌≡◌, ◌≢◌, ◌⊎◌, Bool, cond, List, [], ◌∷◌, ◌++◌, reverse, ℕ, ◌-◌, ◌≤◌, ℤ, get_or, take, replicate, Ok, Err, refl, true, false, length}
+use Rattle.std.proofs.Common.{sym, ap, ◌∙◌, inl, inr, ne_eqb, subst, arith}
 use Rattle.std.proofs.Math.Seq.{take-append_seam}
 use Rattle.tables.specs.declared.Sizes.{Sizes}
 use Rattle.tables.specs.Said.{Said, OK, SIZE}
 use Rattle.tables.specs.Grammar.{Grammar, grammar}
 use Rattle.tables.specs.Judgement.{judgement}
 use Rattle.tables.specs.Laws.Numbers.{judged-cases}
-use Rattle.machine.specs.declared.Answer.{Answer}
-use Rattle.machine.specs.declared.Answer.TheVariants.{Accepted, Token, Syntax, Underflow, NoGoto, Stack, Output, Moves, BadCell}
-use Rattle.machine.specs.Reads.{Reads, plain_reads, unsigned_reads}
+use Rattle.machine.specs.Types.{Answer}
+use Rattle.machine.specs.declared.Stop.TheVariants.{Token, Syntax, Underflow, NoGoto, Stack, Output, Moves, BadCell}
+use Rattle.reads.specs.Reads.{Reads}
+use Rattle.machine.specs.Reads.{plain_reads, unsigned_reads}
 use Rattle.machine.specs.Machine.{Job, Result, parse}
 use Rattle.machine.specs.Outcome.{answer_of, Outcome, unchanged, leaves, job_fits, job, judged_then, plain_parse}
 use Rattle.soundness.specs.Derivation.{Terminals, Rightmost}
@@ -29,27 +26,27 @@ use Rattle.soundness.specs.Laws.Unsigned.{unsigned_reads_lem}
 
 module _ (g : Grammar) (tokens made : List ℕ) (moves : ℕ) where
   right-said : (a : Answer) → Right g tokens a made → ((answer_of a moves).number ≢ 9) × ((answer_of a moves).number ≢ 10)
-  right-said (Underflow _ _) k = elim k [ ]
-  right-said (NoGoto _ _) k = elim k [ ]
-  right-said (Accepted n) k = (λ e. omega arith, λ e. omega arith)
-  right-said (Token i) k = (λ e. omega arith, λ e. omega arith)
-  right-said (Syntax i) k = (λ e. omega arith, λ e. omega arith)
-  right-said (Stack i) k = (λ e. omega arith, λ e. omega arith)
-  right-said (Output i) k = (λ e. omega arith, λ e. omega arith)
-  right-said (Moves i) k = (λ e. omega arith, λ e. omega arith)
-  right-said (BadCell x) k = (λ e. omega arith, λ e. omega arith)
+  right-said (Err (Underflow _ _)) k = elim k [ ]
+  right-said (Err (NoGoto _ _)) k = elim k [ ]
+  right-said (Ok n) k = (λ e. omega arith, λ e. omega arith)
+  right-said (Err (Token i)) k = (λ e. omega arith, λ e. omega arith)
+  right-said (Err (Syntax i)) k = (λ e. omega arith, λ e. omega arith)
+  right-said (Err (Stack i)) k = (λ e. omega arith, λ e. omega arith)
+  right-said (Err (Output i)) k = (λ e. omega arith, λ e. omega arith)
+  right-said (Err (Moves i)) k = (λ e. omega arith, λ e. omega arith)
+  right-said (Err (BadCell x)) k = (λ e. omega arith, λ e. omega arith)
 
 -- OK of a parse is said of what is accepted
-said-accepted : {n k : ℕ} (a : Answer) (moves : ℕ) → answer_of a moves ≡ OK (n ∷ k ∷ []) → a ≡ Accepted n
-said-accepted (Accepted m) moves e = ap Accepted (ap (λ (s : Said). get_or s.values 0 0) e)
-said-accepted (Token i) moves e = absurd (let k : ◌≡◌ {A = ℕ} 7 0 = ap (λ (s : Said). s.number) e in omega arith)
-said-accepted (Syntax i) moves e = absurd (let k : ◌≡◌ {A = ℕ} 8 0 = ap (λ (s : Said). s.number) e in omega arith)
-said-accepted (Underflow i r) moves e = absurd (let k : ◌≡◌ {A = ℕ} 9 0 = ap (λ (s : Said). s.number) e in omega arith)
-said-accepted (NoGoto i r) moves e = absurd (let k : ◌≡◌ {A = ℕ} 10 0 = ap (λ (s : Said). s.number) e in omega arith)
-said-accepted (Stack i) moves e = absurd (let k : ◌≡◌ {A = ℕ} 11 0 = ap (λ (s : Said). s.number) e in omega arith)
-said-accepted (Output i) moves e = absurd (let k : ◌≡◌ {A = ℕ} 12 0 = ap (λ (s : Said). s.number) e in omega arith)
-said-accepted (Moves i) moves e = absurd (let k : ◌≡◌ {A = ℕ} 13 0 = ap (λ (s : Said). s.number) e in omega arith)
-said-accepted (BadCell x) moves e = absurd (let k : ◌≡◌ {A = ℕ} 14 0 = ap (λ (s : Said). s.number) e in omega arith)
+said-accepted : {n k : ℕ} (a : Answer) (moves : ℕ) → answer_of a moves ≡ OK (n ∷ k ∷ []) → a ≡ Ok n
+said-accepted (Ok m) moves e = ap Ok (ap (λ (s : Said). get_or s.values 0 0) e)
+said-accepted (Err (Token i)) moves e = absurd (let k : ◌≡◌ {A = ℕ} 7 0 = ap (λ (s : Said). s.number) e in omega arith)
+said-accepted (Err (Syntax i)) moves e = absurd (let k : ◌≡◌ {A = ℕ} 8 0 = ap (λ (s : Said). s.number) e in omega arith)
+said-accepted (Err (Underflow i r)) moves e = absurd (let k : ◌≡◌ {A = ℕ} 9 0 = ap (λ (s : Said). s.number) e in omega arith)
+said-accepted (Err (NoGoto i r)) moves e = absurd (let k : ◌≡◌ {A = ℕ} 10 0 = ap (λ (s : Said). s.number) e in omega arith)
+said-accepted (Err (Stack i)) moves e = absurd (let k : ◌≡◌ {A = ℕ} 11 0 = ap (λ (s : Said). s.number) e in omega arith)
+said-accepted (Err (Output i)) moves e = absurd (let k : ◌≡◌ {A = ℕ} 12 0 = ap (λ (s : Said). s.number) e in omega arith)
+said-accepted (Err (Moves i)) moves e = absurd (let k : ◌≡◌ {A = ℕ} 13 0 = ap (λ (s : Said). s.number) e in omega arith)
+said-accepted (Err (BadCell x)) moves e = absurd (let k : ◌≡◌ {A = ℕ} 14 0 = ap (λ (s : Said). s.number) e in omega arith)
 
 -- the list holds the reductions made, then 0: its first n are those where n are made
 first_made : {n : ℕ} (made list : List ℕ) → n ≡ length made → take n (made ++ replicate (length list - length made) 0) ≡ made
@@ -73,7 +70,7 @@ module _ (z : Sizes) (states : ℕ) (left lens rights : List ℕ) (table : List 
   record Accepting (n : ℕ) : Type 0 where
     fits : job_fits tokens limit ≡ true
     same : outcome ≡ leaves ran stack list
-    accepted : ran.answer ≡ Accepted n
+    accepted : ran.answer ≡ Ok n
 
   ok-accepts : (n k : ℕ) → outcome.said ≡ OK (n ∷ k ∷ []) → Accepting n
   unfolding plain_parse judged_then unchanged leaves
@@ -135,7 +132,7 @@ module _ (z : Sizes) (states : ℕ) (left lens rights : List ℕ) (table : List 
         subst (λ (x : Answer). Right g tokens x end.made) a.accepted (passed-right (job tokens stack list) limit) in
         rw (a.same, first_made end.made list r.0) (r.1, r.2)
 
-    pub passed-keeps : (n : ℕ) → job_fits tokens limit ≡ true → (parse g u (job tokens stack list) limit).answer ≡ Accepted n
+    pub passed-keeps : (n : ℕ) → job_fits tokens limit ≡ true → (parse g u (job tokens stack list) limit).answer ≡ Ok n
         → parsed ≡ leaves (parse g u (job tokens stack list) limit) stack list
     passed-keeps n h e =
         good-outcome z states left lens rights table srule sgoto tokens limit stack list passed-good.0
@@ -148,5 +145,5 @@ module _ (z : Sizes) (states : ℕ) (left lens rights : List ℕ) (table : List 
     passed-keeps-plain rule₀ goto₀ p q n k e =
         let a : Accepting z states left lens rights table rule₀ goto₀ tokens limit stack list n = ok-accepts z states left lens rights table rule₀ goto₀ tokens limit stack list n k e in
         let w : plain_reads z table rule₀ goto₀ ≡ u = unsigned_reads_lem z table rule₀ goto₀ p q in
-        passed-keeps n a.fits (subst (λ (m : Reads). (parse g m (job tokens stack list) limit).answer ≡ Accepted n) w a.accepted)
+        passed-keeps n a.fits (subst (λ (m : Reads). (parse g m (job tokens stack list) limit).answer ≡ Ok n) w a.accepted)
         ∙ ap (λ (m : Reads). leaves (parse g m (job tokens stack list) limit) stack list) (sym w) ∙ sym a.same

@@ -1,18 +1,12 @@
 -- Over a sound table the machine never says UNDERFLOW or NOGOTO, and what it accepts is derived. Assumes nothing.
-use Rattle.std.specs.Prelude.{◌≡◌, Bool, ltb, drop, take}
-use Rattle.std.proofs.Math.Path.{refl, subst₂}
-use Rattle.std.proofs.Common.{ap, sym, ◌∙◌, subst, arith, take-suc, take_all}
-use Rattle.std.proofs.Math.Bool.{true, false}
-use mathlib.Core.List.{List, [], ◌∷◌, ◌++◌, reverse, append-nil}
-use Prim.Native.Nat.{ℕ, zero, suc, ◌≤◌, ◌<◌}
-use Rattle.std.proofs.Math.ListN.{length, length-append}
+use Rattle.std.specs.Prelude.{◌≡◌, Bool, ltb, drop, take, Ok, Err, Option, Some, None, refl, true, false, List, [], ◌∷◌, ◌++◌, reverse, ℕ, zero, suc, ◌≤◌, ◌<◌, length}
+use Rattle.std.proofs.Math.Path.{subst₂}
+use Rattle.std.proofs.Common.{ap, sym, ◌∙◌, subst, arith, take-suc, take_all, append-nil, length-append}
 use Rattle.std.proofs.lemmas.List.{length-reverse}
 use Rattle.tables.specs.Grammar.{Grammar}
-use Rattle.machine.specs.declared.Current.{Current}
-use Rattle.machine.specs.declared.Current.TheVariants.{Is, Wrong}
-use Rattle.machine.specs.declared.Answer.{Answer}
-use Rattle.machine.specs.declared.Answer.TheVariants.{Accepted, Token, Syntax, Underflow, NoGoto, Stack, Output, Moves, BadCell}
-use Rattle.machine.specs.Reads.{Act, shift, reduce, accept, blank, malformed, Go, goes, nowhere, broken, Reads}
+use Rattle.machine.specs.Types.{Answer}
+use Rattle.machine.specs.declared.Stop.TheVariants.{Token, Syntax, Underflow, NoGoto, Stack, Output, Moves, BadCell}
+use Rattle.reads.specs.Reads.{Act, shift, reduce, accept, blank, malformed, Go, goes, nowhere, broken, Reads}
 use Rattle.machine.specs.Machine.{Job, Config, Result, Step, on, halt, refused, current, pushed, written}
 use Rattle.machine.specs.Machine.{after_shift, after_reduce, after_accept, gone, popped, acted, looked, move, then, run, start, begun, parse}
 use Rattle.machine.specs.Laws.Simulation.{Rule, current-in}
@@ -25,15 +19,15 @@ use Rattle.soundness.specs.Laws.Words.{reverse-on, reverse-last, unspelt, take_o
 
 -- what is said of an answer, and of the reductions made
 abbrev pub Right : Grammar → List ℕ → Answer → List ℕ → Type 0
-Right g tokens (Accepted n) made = (n ≡ length made) × Terminals g.T tokens × Rightmost g (g.T ∷ []) (reverse made) tokens
-Right g tokens (Token i) made = Unit {0}
-Right g tokens (Syntax i) made = Unit {0}
-Right g tokens (Underflow i r) made = ⊥
-Right g tokens (NoGoto i r) made = ⊥
-Right g tokens (Stack i) made = Unit {0}
-Right g tokens (Output i) made = Unit {0}
-Right g tokens (Moves i) made = Unit {0}
-Right g tokens (BadCell s) made = Unit {0}
+Right g tokens (Ok n) made = (n ≡ length made) × Terminals g.T tokens × Rightmost g (g.T ∷ []) (reverse made) tokens
+Right g tokens (Err (Token i)) made = Unit {0}
+Right g tokens (Err (Syntax i)) made = Unit {0}
+Right g tokens (Err (Underflow i r)) made = ⊥
+Right g tokens (Err (NoGoto i r)) made = ⊥
+Right g tokens (Err (Stack i)) made = Unit {0}
+Right g tokens (Err (Output i)) made = Unit {0}
+Right g tokens (Err (Moves i)) made = Unit {0}
+Right g tokens (Err (BadCell s)) made = Unit {0}
 
 -- ---- paths
 
@@ -144,10 +138,10 @@ module _ (g : Grammar) (u v : Reads) (fills : Fills u v) (ok : Proper g u v) (so
         written-right (ltb (length c.made) j.list) c _
         (rw d.left_there (gone-right r d (ok.rules c.state a r l e) (fills.gos d.before (g.left r)) refl))
 
-    looked-right : (x : Current) → current g.T j.tokens c.place ≡ x → RightStep (looked g v j c x)
+    looked-right : (x : Option ℕ) → current g.T j.tokens c.place ≡ x → RightStep (looked g v j c x)
     unfolding looked refused
-    looked-right Wrong e = tt
-    looked-right (Is a) e =
+    looked-right None e = tt
+    looked-right (Some a) e =
         acted-right a (current-in g.T j.tokens c.place a ok.some-terminal e) (current-at g.T j.tokens c.place a e) (v.act c.state a) refl
 
   then-right : (K : Config → Result) (s : Step) → RightStep s → ((d : Config) → Standing d → Right g j.tokens (K d).answer (K d).made)

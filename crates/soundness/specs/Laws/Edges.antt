@@ -1,70 +1,72 @@
--- Edges, told from the table's entries: a positive entry leads to the state that it names. Assumes nothing.
-use Rattle.std.proofs.Math.Path.{◌≡◌, refl}
-use Rattle.std.proofs.Common.{sym, ◌∙◌}
-use Rattle.std.specs.Prelude.{◌≢◌, Bool, List, [], ℕ, zero, suc, ◌+◌, ◌≤◌, ◌<◌, ℤ, pos, negsuc}
-use Rattle.std.proofs.Math.Bool.{true, false}
-use native.Mathlib.Omega.{arith}
-use Rattle.std.proofs.Math.Dec.{ltb, eqb-suc-zero}
-use borrow.Author.Tests.{ltb-true, ltb-false, ne_eqb}
-use Rattle.number.specs.Number.{sign_of, plus_of}
+-- Edges, told from the table's entries: a positive entry leads to the state that it names, read as a goto of any column. Assumes nothing.
+use Rattle.std.specs.Prelude.{◌≡◌, refl, ◌≢◌, Bool, true, false, List, [], ℕ, zero, suc, ◌+◌, ◌≤◌, ◌<◌, ltb, ℤ, pos, negsuc, Option, Some, None, is_some}
+use Rattle.std.proofs.Common.{sym, ap, ◌∙◌, arith, ltb-true, ltb-false, ne_eqb}
+use Rattle.std.proofs.Math.Dec.{eqb-suc-zero}
+use Rattle.number.specs.Number.{sign_of}
 use Rattle.tables.specs.declared.Sizes.{Sizes}
 use Rattle.tables.specs.Grammar.{Grammar, grammar}
 use Rattle.tables.specs.Entry.{entry_at, action_of, action_at, goto_of, goto_at}
 use Rattle.tables.specs.Laws.Size.{Within, NumbersFit}
 use Rattle.tables.specs.Laws.Entry.{TermOk, NontermOk, TableOk}
-use Rattle.machine.specs.Reads.{shift, goes, nowhere, Reads, act_of, go_of, plain_reads, unsigned_reads}
+use Rattle.tables.specs.Laws.Tests.{clash}
+use Rattle.reads.specs.Reads.{shift, goes, nowhere, Reads}
+use Rattle.machine.specs.Reads.{act_of, go_of, plain_reads, unsigned_reads}
 use Rattle.soundness.specs.Path.{Edge, by-shift, by-goto, PathTo, here, along, Reach}
 use Rattle.soundness.specs.Verdict.{Reduces, by-rule, by-accept}
 
--- the state that the entry of s and x leads to, 0 where it leads to none
-unfoldable pub target_at : Sizes → List ℤ → ℕ → ℕ → ℕ
-target_at z table s x = plus_of (entry_at z table s x)
+-- ---- one entry: a shift or a goto is a positive number, and is read as a goto
 
--- ---- one entry: a shift or a goto is a positive number
-
-shift-plus : (e : ℤ) {t : ℕ} → act_of (action_of (sign_of e)) ≡ shift t → (plus_of e ≡ t) × (t ≢ 0)
-shift-plus (pos zero) h = let q : ◌≡◌ {A = ℕ} 0 1 = cc in absurd (omega arith)
-shift-plus (pos (suc n)) {t} h =
+shift-goto : (e : ℤ) {t : ℕ} → act_of (action_of (sign_of e)) ≡ shift t → goto_of (sign_of e) ≡ Some t
+shift-goto (pos zero) h = absurd (cc)
+shift-goto (pos (suc n)) {t} h =
     let k : shift (suc n) ≡ shift t = rw (eqb-suc-zero n) at h in
-    let q : suc n ≡ t = cc in (q, λ o. omega arith)
-shift-plus (negsuc zero) h = let q : ◌≡◌ {A = ℕ} 0 1 = cc in absurd (omega arith)
-shift-plus (negsuc (suc n)) {t} h =
+    rw (eqb-suc-zero n) (cc)
+shift-goto (negsuc zero) h = absurd (cc)
+shift-goto (negsuc (suc n)) {t} h =
     let k : _ ≡ shift t = rw (ne_eqb (suc (suc n)) 1 (λ o. omega arith)) at h in
-    let q : ◌≡◌ {A = ℕ} 0 1 = cc in absurd (omega arith)
+    absurd (cc)
 
-plus-shift : (e : ℤ) → plus_of e ≢ 0 → act_of (action_of (sign_of e)) ≡ shift (plus_of e)
-plus-shift (pos zero) h = absurd (h refl)
-plus-shift (pos (suc n)) h = rw (eqb-suc-zero n)
-plus-shift (negsuc n) h = absurd (h refl)
+goto-shift : (e : ℤ) {t : ℕ} → goto_of (sign_of e) ≡ Some t → act_of (action_of (sign_of e)) ≡ shift t
+goto-shift (pos zero) h = absurd (cc)
+goto-shift (pos (suc n)) {t} h =
+    let k : Some (suc n) ≡ Some t = rw (eqb-suc-zero n) at h in
+    rw (eqb-suc-zero n) (cc)
+goto-shift (negsuc n) h = absurd (cc)
 
-goes-plus : (e : ℤ) {t : ℕ} → go_of (goto_of (sign_of e)) ≡ goes t → (plus_of e ≡ t) × (t ≢ 0)
-goes-plus (pos zero) h = let q : ◌≡◌ {A = ℕ} 0 1 = cc in absurd (omega arith)
-goes-plus (pos (suc n)) {t} h =
-    let k : goes (suc n) ≡ goes t = rw (eqb-suc-zero n) at h in
-    let q : suc n ≡ t = cc in (q, λ o. omega arith)
-goes-plus (negsuc n) h = let q : ◌≡◌ {A = ℕ} 0 1 = cc in absurd (omega arith)
+goto_some : (e : ℤ) {t : ℕ} → goto_of (sign_of e) ≡ Some t → t ≢ 0
+goto_some (pos zero) h o = absurd (cc)
+goto_some (pos (suc n)) {t} h o =
+    let k : Some (suc n) ≡ Some t = rw (eqb-suc-zero n) at h in
+    let q : suc n ≡ t = cc in
+    omega arith
+goto_some (negsuc n) h o = absurd (cc)
 
-plus-goes : (e : ℤ) → plus_of e ≢ 0 → go_of (goto_of (sign_of e)) ≡ goes (plus_of e)
-plus-goes (pos zero) h = absurd (h refl)
-plus-goes (pos (suc n)) h = rw (eqb-suc-zero n)
-plus-goes (negsuc n) h = absurd (h refl)
+goes-some : (o : Option ℕ) {t : ℕ} → go_of o ≡ goes t → o ≡ Some t
+goes-some None h = absurd (cc)
+goes-some (Some n) h = cc
 
 -- a goto that is not blank leads to a state, and back
 module _ (z : Sizes) (table : List ℤ) (s x : ℕ) where
-  pub goto-target : (unsigned_reads z table).go s x ≢ nowhere → target_at z table s x ≢ 0
-  unfolding unsigned_reads goto_at target_at
-  goto-target n e = n (by (entry_at z table s x) e)
+  pub goto-there : (unsigned_reads z table).go s x ≢ nowhere → is_some (goto_at z table s x) ≡ true
+  unfolding unsigned_reads
+  goto-there n = by (goto_at z table s x) n
     where
-      by : (e : ℤ) → plus_of e ≡ 0 → go_of (goto_of (sign_of e)) ≡ nowhere
-      by (pos zero) q = refl
-      by (pos (suc n)) q = absurd (omega arith)
-      by (negsuc n) q = refl
+      by : (o : Option ℕ) → go_of o ≢ nowhere → is_some o ≡ true
+      by None d = absurd (d refl)
+      by (Some t) d = refl
 
-  pub target-goto : target_at z table s x ≢ 0 → (unsigned_reads z table).go s x ≢ nowhere
-  unfolding unsigned_reads goto_at target_at
-  target-goto n e =
-      let g : go_of (goto_of (sign_of (entry_at z table s x))) ≡ goes (plus_of (entry_at z table s x)) = plus-goes (entry_at z table s x) n in
-      let q : ◌≡◌ {A = ℕ} 0 1 = cc in omega arith
+  pub there-goto : is_some (goto_at z table s x) ≡ true → (unsigned_reads z table).go s x ≢ nowhere
+  unfolding unsigned_reads
+  there-goto h = by (goto_at z table s x) h
+    where
+      by : (o : Option ℕ) → is_some o ≡ true → go_of o ≢ nowhere
+      by None h q = clash h refl
+      by (Some t) h q = absurd (cc)
+
+  -- and never to state 0
+  pub goto-not-0 : {t : ℕ} → goto_at z table s x ≡ Some t → t ≢ 0
+  unfolding goto_at
+  goto-not-0 e = goto_some (entry_at z table s x) e
 
 -- ---- what needs little of a grammar and of a signing
 
@@ -127,43 +129,45 @@ module _ {z : Sizes} {states : ℕ} {table : List ℤ} (k : Tabled z states tabl
   leads-below (by-shift h e) = omega (arith, symbols-some)
   leads-below (by-goto h l e) = l
 
-  pub leads-target : {s x t : ℕ} → Leads z table s x t → (target_at z table s x ≡ t) × (t ≢ 0)
-  unfolding unsigned_reads action_at goto_at target_at
-  leads-target {s} {x} (by-shift h e) = shift-plus (entry_at z table s x) e
-  leads-target {s} {x} (by-goto h l e) = goes-plus (entry_at z table s x) e
+  pub leads-goto : {s x t : ℕ} → Leads z table s x t → goto_at z table s x ≡ Some t
+  unfolding unsigned_reads action_at goto_at
+  leads-goto {s} {x} (by-shift h e) = shift-goto (entry_at z table s x) e
+  leads-goto {s} {x} (by-goto h l e) = goes-some (goto_of (sign_of (entry_at z table s x))) e
 
-  pub target-leads : (s x : ℕ) → x < z.symbols → target_at z table s x ≢ 0 → Leads z table s x (target_at z table s x)
-  unfolding grammar unsigned_reads action_at goto_at target_at
-  target-leads s x h n = by (ltb x z.terminals) refl
+  pub goto-leads : {s x t : ℕ} → x < z.symbols → goto_at z table s x ≡ Some t → Leads z table s x t
+  unfolding grammar unsigned_reads action_at goto_at
+  goto-leads {s} {x} {t} h e = by (ltb x z.terminals) refl
     where
-      by : (b : Bool) → ltb x z.terminals ≡ b → Leads z table s x (plus_of (entry_at z table s x))
-      by true q = by-shift (ltb-true _ _ q) (plus-shift (entry_at z table s x) n)
-      by false q = by-goto (ltb-false _ _ q) h (plus-goes (entry_at z table s x) n)
+      by : (b : Bool) → ltb x z.terminals ≡ b → Leads z table s x t
+      by true q = by-shift (ltb-true _ _ q) (goto-shift (entry_at z table s x) e)
+      by false q = by-goto (ltb-false _ _ q) h (ap go_of e)
 
-  -- it leads below L, and never on the end mark
-  term-target : (a : ℕ) (e : ℤ) → TermOk z states a e → plus_of e ≢ 0 → (plus_of e < states) × (a ≢ 0)
-  term-target a (pos zero) o n = absurd (n refl)
-  term-target a (pos (suc t)) o n = o
-  term-target a (negsuc r) o n = absurd (n refl)
+  -- to a state below L, and never on the end mark
+  term-goto : (a : ℕ) (e : ℤ) {t : ℕ} → TermOk z states a e → goto_of (sign_of e) ≡ Some t → (t < states) × (a ≢ 0)
+  term-goto a (pos zero) o h = absurd (cc)
+  term-goto a (pos (suc n)) {t} o h =
+      let k : Some (suc n) ≡ Some t = rw (eqb-suc-zero n) at h in
+      let q : suc n ≡ t = cc in
+      rw q at o
+  term-goto a (negsuc r) o h = absurd (cc)
 
-  nonterm-target : (a : ℕ) (e : ℤ) → NontermOk z states a e → plus_of e ≢ 0 → plus_of e < states
-  nonterm-target a (pos zero) o n = absurd (n refl)
-  nonterm-target a (pos (suc t)) o n = o.0
-  nonterm-target a (negsuc r) o n = absurd o
+  nonterm-goto : (a : ℕ) (e : ℤ) {t : ℕ} → NontermOk z states a e → goto_of (sign_of e) ≡ Some t → t < states
+  nonterm-goto a (pos zero) o h = absurd (cc)
+  nonterm-goto a (pos (suc n)) {t} o h =
+      let k : Some (suc n) ≡ Some t = rw (eqb-suc-zero n) at h in
+      let q : suc n ≡ t = cc in
+      rw q at o.0
+  nonterm-goto a (negsuc r) o h = absurd o
 
-  pub target-in : (s x : ℕ) → s < states → x < z.symbols → target_at z table s x ≢ 0 → (target_at z table s x < states) × (x ≢ 0)
-  unfolding target_at
-  target-in s x h l n = by (ltb x z.terminals) refl
+  pub goto-in : {s x t : ℕ} → s < states → x < z.symbols → goto_at z table s x ≡ Some t → (t < states) × (x ≢ 0)
+  unfolding goto_at
+  goto-in {s} {x} {t} h l e = by (ltb x z.terminals) refl
     where
-      by : (b : Bool) → ltb x z.terminals ≡ b → (plus_of (entry_at z table s x) < states) × (x ≢ 0)
-      by true q = term-target x (entry_at z table s x) (k.entries.terms s x h (ltb-true _ _ q)) n
+      by : (b : Bool) → ltb x z.terminals ≡ b → (t < states) × (x ≢ 0)
+      by true q = term-goto x (entry_at z table s x) (k.entries.terms s x h (ltb-true _ _ q)) e
       by false q =
-          let t : z.terminals ≤ x = ltb-false _ _ q in
-          (nonterm-target x (entry_at z table s x) (k.entries.nonterms s x h t l) n, λ e. omega (arith, k.numbers.terminals.least))
+          let b : z.terminals ≤ x = ltb-false _ _ q in
+          (nonterm-goto x (entry_at z table s x) (k.entries.nonterms s x h b l) e, λ o. omega (arith, k.numbers.terminals.least))
 
   pub leads-in : {s x t : ℕ} → s < states → Leads z table s x t → (t < states) × (x ≢ 0)
-  leads-in {s} {x} {t} h e =
-      let p : (target_at z table s x ≡ t) × (t ≢ 0) = leads-target e in
-      let n : target_at z table s x ≢ 0 = λ q. p.1 (sym p.0 ∙ q) in
-      let o : (target_at z table s x < states) × (x ≢ 0) = target-in s x h (leads-below e) n in
-      (rw p.0 at o.0, o.1)
+  leads-in h e = goto-in h (leads-below e) (leads-goto e)

@@ -1,14 +1,13 @@
 -- The filled table is the unsigned one with reductions and gotos in some of its blanks, and nothing else. Assumes nothing.
-use Rattle.std.specs.Prelude.{◌≡◌, Bool, true, false, cond, List, ℕ, ◌-◌, eqb, ℤ, get_or}
+use Rattle.std.specs.Prelude.{◌≡◌, Bool, true, false, cond, List, ℕ, ◌-◌, eqb, ℤ, get_or, Option, Some, None}
 use Rattle.std.proofs.Common.{arith}
 use Rattle.tables.specs.declared.Sizes.{Sizes}
 use Rattle.tables.specs.declared.Action.{Action}
 use Rattle.tables.specs.declared.Action.TheVariants as action
-use Rattle.tables.specs.declared.Goto.{Goto}
-use Rattle.tables.specs.declared.Goto.TheVariants as goto
 use Rattle.tables.specs.Entry.{action_at, goto_at}
 use Rattle.tables.specs.Filled.{signed_action, signed_goto, filled_action, filled_goto, filled_action_at, filled_goto_at}
-use Rattle.machine.specs.Reads.{Act, shift, reduce, accept, blank, Go, goes, nowhere, Reads, act_of, go_of, plain_reads, unsigned_reads}
+use Rattle.reads.specs.Reads.{Act, shift, reduce, accept, blank, Go, goes, nowhere, Reads}
+use Rattle.machine.specs.Reads.{act_of, go_of, plain_reads, unsigned_reads}
 
 -- an action stays, or is a reduction in place of a blank
 pub data FillsAct : Act → Act → Type 0 where
@@ -47,14 +46,14 @@ action-fills r (action.Shift t) = act-stays
 action-fills r (action.Reduce q) = act-stays
 action-fills r action.Accept = act-stays
 
-goto-fills : (t : ℕ) (x : Goto) → FillsGo (go_of x) (go_of (filled_goto t x))
+goto-fills : (t : ℕ) (x : Option ℕ) → FillsGo (go_of x) (go_of (filled_goto t x))
 unfolding signed_goto
-goto-fills t goto.Blank = by (eqb t 0)
+goto-fills t None = by (eqb t 0)
   where
-    by : (b : Bool) → FillsGo nowhere (go_of (cond b goto.Blank (goto.To t)))
+    by : (b : Bool) → FillsGo nowhere (go_of (cond b None (Some t)))
     by true = go-stays
     by false = go-signed
-goto-fills t (goto.To s) = go-stays
+goto-fills t (Some s) = go-stays
 
 pub plain-fills : (z : Sizes) (table : List ℤ) (srule sgoto : List ℕ) → Fills (unsigned_reads z table) (plain_reads z table srule sgoto)
 unfolding plain_reads unsigned_reads filled_action_at filled_goto_at

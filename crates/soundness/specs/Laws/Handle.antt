@@ -1,15 +1,12 @@
 -- A handle is a tail of its path, with the condition on the state before it; the rules that a row reduces by are those in its list. Assumes nothing.
-use Rattle.std.specs.Prelude.{◌≡◌, ◌≢◌, Bool, ℕ, ◌<◌, drop}
-use Rattle.std.proofs.Math.Path.{refl}
-use Rattle.std.proofs.Common.{ap, sym, ◌∙◌}
-use Rattle.std.proofs.Math.Bool.{true, false, cond}
-use mathlib.Core.List.{List, ◌∷◌, reverse, Memᴰ}
-use Rattle.std.proofs.Math.Dec.{eqb}
+use Rattle.std.specs.Prelude.{◌≡◌, ◌≢◌, Bool, ℕ, ◌<◌, drop, refl, true, false, cond, List, ◌∷◌, reverse, eqb}
+use Rattle.std.proofs.Common.{ap, sym, ◌∙◌, eqb-true}
+use mathlib.Core.List.{Memᴰ}
 use Rattle.std.proofs.lemmas.List.{length-reverse}
-use borrow.Author.Tests.{eqb-true, eqb-false}
+use Rattle.std.proofs.lemmas.Bool.{eqb-false}
 use Rattle.tables.specs.Grammar.{Grammar}
 use Rattle.tables.specs.Laws.Tests.{clash}
-use Rattle.machine.specs.Reads.{Act, shift, reduce, accept, blank, malformed, Go, goes, nowhere, broken, Reads}
+use Rattle.reads.specs.Reads.{Act, shift, reduce, accept, blank, malformed, Go, goes, nowhere, broken, Reads}
 use Rattle.soundness.specs.Verdict.{Reduces, by-rule, by-accept, Handle}
 use Rattle.soundness.specs.Check.{is_there, may_precede, rule_of, rules_at}
 use Rattle.soundness.specs.Laws.Tail.{Tail}

@@ -1,15 +1,9 @@
 -- What the unsigned table accepts, the filled one accepts by the same moves. Assumes nothing.
-use Rattle.std.specs.Prelude.{◌≡◌, ◌≢◌, Bool, ltb, length, drop}
-use Rattle.std.proofs.Math.Path.{refl}
-use Rattle.std.proofs.Math.Bool.{true, false}
-use mathlib.Core.List.{List, [], ◌∷◌}
-use Prim.Native.Nat.{ℕ, zero, suc}
+use Rattle.std.specs.Prelude.{◌≡◌, ◌≢◌, Bool, ltb, length, drop, Ok, Err, Option, Some, None, refl, true, false, List, [], ◌∷◌, ℕ, zero, suc}
 use Rattle.std.proofs.Common.{arith}
 use Rattle.tables.specs.Grammar.{Grammar}
-use Rattle.machine.specs.declared.Current.{Current}
-use Rattle.machine.specs.declared.Current.TheVariants.{Is, Wrong}
-use Rattle.machine.specs.declared.Answer.TheVariants.{Accepted, Syntax, NoGoto}
-use Rattle.machine.specs.Reads.{Act, shift, reduce, accept, blank, malformed, Go, Reads}
+use Rattle.machine.specs.declared.Stop.TheVariants.{Syntax, NoGoto}
+use Rattle.reads.specs.Reads.{Act, shift, reduce, accept, blank, malformed, Go, Reads}
 use Rattle.machine.specs.Machine.{Job, Config, Result, Step, on, halt, refused, current, written}
 use Rattle.machine.specs.Machine.{gone, popped, acted, looked, move, then, run, start, begun, parse}
 use Rattle.soundness.specs.Laws.Fills.{FillsAct, act-stays, act-signed, FillsGo, go-stays, go-signed, Fills}
@@ -17,12 +11,12 @@ use Rattle.soundness.specs.Laws.Fills.{FillsAct, act-stays, act-signed, FillsGo,
 -- the second step is the first, or the first refuses
 data Follows : Step → Step → Type 0 where
   same : {s : Step} → Follows s s
-  refuses : {r : Result} {s : Step} → ((n : ℕ) → r.answer ≢ Accepted n) → Follows (halt r) s
+  refuses : {r : Result} {s : Step} → ((n : ℕ) → r.answer ≢ Ok n) → Follows (halt r) s
 
-syntax-refuses : (i n : ℕ) → Syntax i ≢ Accepted n
+syntax-refuses : (i n : ℕ) → Err (Syntax i) ≢ Ok n
 syntax-refuses i n e = let z : ◌≡◌ {A = ℕ} 0 1 = cc in omega arith
 
-nogoto-refuses : (i r n : ℕ) → NoGoto i r ≢ Accepted n
+nogoto-refuses : (i r n : ℕ) → Err (NoGoto i r) ≢ Ok n
 nogoto-refuses i r n e = let z : ◌≡◌ {A = ℕ} 0 1 = cc in omega arith
 
 written-follows : (b : Bool) (c : Config) {s t : Step} → Follows s t → Follows (written b c s) (written b c t)
@@ -51,29 +45,29 @@ module _ (g : Grammar) {u v : Reads} (fills : Fills u v) (j : Job) where
   acted-follows c (act-stays {x = malformed}) = same
   acted-follows c act-signed = refuses (syntax-refuses c.place)
 
-  looked-follows : (c : Config) (x : Current) → Follows (looked g u j c x) (looked g v j c x)
+  looked-follows : (c : Config) (x : Option ℕ) → Follows (looked g u j c x) (looked g v j c x)
   unfolding looked
-  looked-follows c Wrong = same
-  looked-follows c (Is a) = acted-follows c (fills.acts c.state a)
+  looked-follows c None = same
+  looked-follows c (Some a) = acted-follows c (fills.acts c.state a)
 
-  then-follows : (K L : Config → Result) {n : ℕ} {s t : Step} → Follows s t → ((d : Config) → (K d).answer ≡ Accepted n → L d ≡ K d)
-      → (then K s).answer ≡ Accepted n → then L t ≡ then K s
+  then-follows : (K L : Config → Result) {n : ℕ} {s t : Step} → Follows s t → ((d : Config) → (K d).answer ≡ Ok n → L d ≡ K d)
+      → (then K s).answer ≡ Ok n → then L t ≡ then K s
   unfolding then
   then-follows K L (same {s = on d}) h e = h d e
   then-follows K L (same {s = halt r}) h e = refl
   then-follows K L {n} (refuses d) h e = absurd (d n e)
 
-  run-keeps : {n : ℕ} (k : ℕ) (c : Config) → (run g u j k c).answer ≡ Accepted n → run g v j k c ≡ run g u j k c
+  run-keeps : {n : ℕ} (k : ℕ) (c : Config) → (run g u j k c).answer ≡ Ok n → run g v j k c ≡ run g u j k c
   unfolding run move
   run-keeps zero c e = refl
   run-keeps (suc k) c e =
       then-follows (run g u j k) (run g v j k) (looked-follows c (current g.T j.tokens c.place)) (run-keeps k) e
 
-  begun-keeps : {n : ℕ} (limit : ℕ) (b : Bool) → (begun g u j limit b).answer ≡ Accepted n → begun g v j limit b ≡ begun g u j limit b
+  begun-keeps : {n : ℕ} (limit : ℕ) (b : Bool) → (begun g u j limit b).answer ≡ Ok n → begun g v j limit b ≡ begun g u j limit b
   unfolding begun
   begun-keeps limit true e = run-keeps limit start e
   begun-keeps limit false e = refl
 
-  pub parse-keeps : {n : ℕ} (limit : ℕ) → (parse g u j limit).answer ≡ Accepted n → parse g v j limit ≡ parse g u j limit
+  pub parse-keeps : {n : ℕ} (limit : ℕ) → (parse g u j limit).answer ≡ Ok n → parse g v j limit ≡ parse g u j limit
   unfolding parse
   parse-keeps limit e = begun-keeps limit (ltb 0 j.stack) e

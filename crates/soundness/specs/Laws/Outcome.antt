@@ -2,12 +2,16 @@
 use Rattle.std.specs.Prelude.{◌≡◌, refl, ◌≢◌, ◌↔◌, ◌⊎◌, List, [], ℕ, ◌≤◌, ℤ, get_or}
 use Rattle.std.proofs.Common.{sym, ap, ◌∙◌, inl, inr, ⊎_elim, arith, ne_eqb}
 use Rattle.tables.specs.declared.Sizes.{Sizes}
+use Rattle.tables.specs.declared.Refusal.{Refusal}
+use Rattle.tables.specs.declared.Refusal.TheVariants.{Size, Grammar as bad-rule, Entry, State, Nonterminal}
 use Rattle.tables.specs.Said.{Said, OK, UNSOUND}
 use Rattle.tables.specs.Grammar.{Grammar, grammar}
 use Rattle.tables.specs.Judgement.{judgement}
-use Rattle.tables.specs.Laws.Judgement as tables
+use Rattle.tables.specs.Judgement as tables
+use Rattle.tables.specs.Laws.Judgement as laws
 use Rattle.tables.specs.Laws.Numbers.{judged-cases}
-use Rattle.machine.specs.Reads.{Reads, plain_reads, unsigned_reads}
+use Rattle.reads.specs.Reads.{Reads}
+use Rattle.machine.specs.Reads.{plain_reads, unsigned_reads}
 use Rattle.soundness.specs.Path.{PathTo}
 use Rattle.soundness.specs.Verdict.{Reduces, Handle, Verdict, sound, unsound, IsVerdict}
 use Rattle.soundness.specs.Check.{verdict}
@@ -31,6 +35,14 @@ verdict-number : (w : Verdict) → ((verdict_said w).number ≡ 0) ⊎ ((verdict
 verdict-number sound = inl refl
 verdict-number (unsound s r) = inr refl
 
+-- no refusal is said under 0
+refused_some : (e : Refusal) → (tables.refused e).number ≢ 0
+refused_some Size n = omega arith
+refused_some (bad-rule r) n = omega arith
+refused_some (Entry i) n = omega arith
+refused_some (State s) n = omega arith
+refused_some (Nonterminal x) n = omega arith
+
 module _ (z : Sizes) (states : ℕ) (left lens rights : List ℕ) (table : List ℤ) (srule sgoto : List ℕ) where
   abbrev judged : Said
   judged = judgement z states left lens rights table srule sgoto
@@ -52,13 +64,16 @@ module _ (z : Sizes) (states : ℕ) (left lens rights : List ℕ) (table : List 
   unfolding checked judged_then
   checked_refused n = rw (ne_eqb judged.number 0 n)
 
+  pub said-back : (e : Refusal) → judged ≡ tables.refused e → said ≡ tables.refused e
+  said-back e h = checked_refused (λ n. refused_some e (ap (λ (t : Said). t.number) (sym h) ∙ n)) ∙ h
+
   module _ (good : judged ≡ OK []) where
     pub good-proper : Proper g u v
-    good-proper = well-proper (tables.ok-means z states left lens rights table srule sgoto good)
+    good-proper = well-proper (laws.ok-means z states left lens rights table srule sgoto good)
 
     -- what is worked out is the verdict
     pub good_right : IsVerdict g u v (verdict g u v states)
-    good_right = verdict-right g u v states (well-bounded (tables.ok-means z states left lens rights table srule sgoto good)) (proper-rules good-proper)
+    good_right = verdict-right g u v states (well-bounded (laws.ok-means z states left lens rights table srule sgoto good)) (proper-rules good-proper)
 
     -- and it is what is said
     pub good-said : said ≡ verdict_said (verdict g u v states)

@@ -15,7 +15,8 @@ use Rattle.tables.specs.Laws.Grammar.{Inner}
 use Rattle.tables.specs.Laws.Entry.{TermOk, NontermOk}
 use Rattle.tables.specs.Laws.Signing.{RuleSigned, unsigned, by-rule as signed-by}
 use Rattle.tables.specs.Laws.Judgement.{WellFormed}
-use Rattle.machine.specs.Reads.{Act, shift, reduce, accept, blank, malformed, Go, goes, nowhere, broken, Reads, act_of, go_of, plain_reads, unsigned_reads}
+use Rattle.reads.specs.Reads.{Act, shift, reduce, accept, blank, malformed, Go, goes, nowhere, broken, Reads}
+use Rattle.machine.specs.Reads.{act_of, go_of, plain_reads, unsigned_reads}
 use Rattle.machine.specs.Laws.Simulation.{Rule}
 use Rattle.soundness.specs.Path.{Edge, by-shift, by-goto}
 use Rattle.soundness.specs.Verdict.{by-rule, by-accept}

@@ -1,17 +1,12 @@
 -- The arcs are the edges, and the reached states are those with a path. Assumes nothing.
-use Rattle.std.specs.Prelude.{◌≡◌, ◌⊎◌, Bool, ◌&&◌, ltb, eqb}
-use Rattle.std.proofs.Math.Path.{refl, subst}
-use Rattle.std.proofs.Common.{ap, sym, arith, ltb-true, ltb-false, lt-ltb, le-ltb, eqb-true, eq-eqb}
-use Rattle.std.proofs.Math.Logic.{inl, inr, ⊎_elim}
-use Rattle.std.proofs.Math.Bool.{true, false, not}
-use mathlib.Core.List.{List, [], ◌∷◌, map, Memᴰ}
-use Prim.Native.Nat.{ℕ, zero, suc, ◌≤◌, ◌<◌}
-use Rattle.std.proofs.Math.ListN.{length}
+use Rattle.std.specs.Prelude.{◌≡◌, ◌⊎◌, Bool, ◌&&◌, ltb, eqb, refl, true, false, not, List, [], ◌∷◌, map, ℕ, zero, suc, ◌≤◌, ◌<◌, length}
+use Rattle.std.proofs.Common.{ap, sym, arith, ltb-true, ltb-false, lt-ltb, le-ltb, eqb-true, eq-eqb, subst, inl, inr, ⊎_elim}
+use mathlib.Core.List.{Memᴰ}
 use Rattle.tables.specs.Lists.{among}
 use Rattle.tables.specs.Grammar.{Grammar}
 use Rattle.tables.specs.Laws.Tests.{and-true}
 use Rattle.tables.specs.Laws.Members.{among-from, among_in}
-use Rattle.machine.specs.Reads.{Act, shift, reduce, accept, blank, malformed, Go, goes, nowhere, broken, Reads}
+use Rattle.reads.specs.Reads.{Act, shift, reduce, accept, blank, malformed, Go, goes, nowhere, broken, Reads}
 use Rattle.soundness.specs.Path.{Edge, by-shift, by-goto, here, along, Reach}
 use Rattle.soundness.specs.Lists.{those, collect}
 use Rattle.soundness.specs.Check.{Arc, arc, shifts_to, goes_to, leads_to, arcs_from, arcs, grown, grow, reached}

@@ -1,16 +1,13 @@
 -- What is worked out of the paths into a state, column by column, is so of every path. Assumes nothing.
-use Rattle.std.specs.Prelude.{◌≡◌, Bool, not, ◌&&◌, ℕ}
-use Rattle.std.proofs.Math.Path.{refl}
+use Rattle.std.specs.Prelude.{◌≡◌, Bool, not, ◌&&◌, ℕ, refl, true, false, List, [], ◌∷◌, map, eqb}
 use Rattle.std.proofs.Common.{sym, ◌∙◌, subst, eqb-true}
-use Rattle.std.proofs.Math.Bool.{true, false}
-use mathlib.Core.List.{List, [], ◌∷◌, map, Memᴰ}
-use Rattle.std.proofs.Math.Dec.{eqb}
+use mathlib.Core.List.{Memᴰ}
 use Rattle.std.proofs.lemmas.Bool.{eqb-false}
 use Rattle.tables.specs.Lists.{all, among}
 use Rattle.tables.specs.Grammar.{Grammar}
 use Rattle.tables.specs.Laws.Tests.{clash}
 use Rattle.tables.specs.Laws.Members.{among-from, among_in, all_of, not-all}
-use Rattle.machine.specs.Reads.{Reads}
+use Rattle.reads.specs.Reads.{Reads}
 use Rattle.soundness.specs.Path.{Edge, Reach}
 use Rattle.soundness.specs.Check.{Arc, arc, into, before, spelling, spells}
 use Rattle.soundness.specs.Laws.Tail.{Failing}

@@ -1,7 +1,7 @@
 -- A path whose last symbols are given, and one that fails at them.
 use Rattle.std.specs.Prelude.{◌≡◌, refl, List, [], ◌∷◌, ◌++◌, ℕ, length, drop}
 use Rattle.tables.specs.Grammar.{Grammar}
-use Rattle.machine.specs.Reads.{Reads}
+use Rattle.reads.specs.Reads.{Reads}
 use Rattle.soundness.specs.Path.{PathTo}
 
 -- the symbols xs (the last first) begin with ys, and F holds of the state where those begin

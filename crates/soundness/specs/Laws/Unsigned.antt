@@ -1,15 +1,13 @@
 -- The filled table of a signing that signs nothing is the unsigned table. Assumes nothing.
-use Rattle.std.specs.Prelude.{◌≡◌, refl, List, ℤ, get_or}
+use Rattle.std.specs.Prelude.{◌≡◌, refl, List, ℤ, get_or, Option, Some, None, ℕ, ◌-◌}
 use Rattle.std.proofs.Math.Path.{ap₂, fun_ext}
-use Prim.Native.Nat.{ℕ, ◌-◌}
 use Rattle.tables.specs.declared.Sizes.{Sizes}
 use Rattle.tables.specs.declared.Action.{Action}
 use Rattle.tables.specs.declared.Action.TheVariants as action
-use Rattle.tables.specs.declared.Goto.{Goto}
-use Rattle.tables.specs.declared.Goto.TheVariants as goto
 use Rattle.tables.specs.Entry.{action_at, goto_at}
 use Rattle.tables.specs.Filled.{signed_action, signed_goto, filled_action, filled_goto, filled_action_at, filled_goto_at}
-use Rattle.machine.specs.Reads.{Act, Go, Reads, act_of, go_of, plain_reads, unsigned_reads}
+use Rattle.reads.specs.Reads.{Act, Go, Reads}
+use Rattle.machine.specs.Reads.{act_of, go_of, plain_reads, unsigned_reads}
 
 action-same : (a : Action) → filled_action 0 a ≡ a
 unfolding signed_action
@@ -18,10 +16,10 @@ action-same (action.Shift t) = refl
 action-same (action.Reduce r) = refl
 action-same action.Accept = refl
 
-goto-same : (x : Goto) → filled_goto 0 x ≡ x
+goto-same : (x : Option ℕ) → filled_goto 0 x ≡ x
 unfolding signed_goto
-goto-same goto.Blank = refl
-goto-same (goto.To t) = refl
+goto-same None = refl
+goto-same (Some t) = refl
 
 module _ (z : Sizes) (table : List ℤ) (srule sgoto : List ℕ) (no-rule : (s : ℕ) → get_or srule s 0 ≡ 0) (no-state : (i : ℕ) → get_or sgoto i 0 ≡ 0) where
   act-same : (s a : ℕ) → act_of (filled_action_at z table srule s a) ≡ act_of (action_at z table s a)

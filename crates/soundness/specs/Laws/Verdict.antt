@@ -3,7 +3,7 @@ use Rattle.std.specs.Prelude.{◌≡◌, refl, ◌≢◌, ◌⊎◌, Bool, true,
 use Rattle.std.proofs.Common.{sym, inl, inr, arith, ltb-true, ltb-false, eqb-true}
 use Rattle.std.proofs.lemmas.Bool.{eqb-false}
 use Rattle.tables.specs.Grammar.{Grammar}
-use Rattle.machine.specs.Reads.{Reads}
+use Rattle.reads.specs.Reads.{Reads}
 use Rattle.soundness.specs.Verdict.{Sound, Verdict, sound, unsound, Unsound, IsVerdict}
 
 -- less, equal or greater

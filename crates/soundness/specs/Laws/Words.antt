@@ -1,8 +1,8 @@
 -- Lists read backwards, and the tokens read so far. Assumes nothing.
-use Rattle.std.specs.Prelude.{◌≡◌, refl, Bool, true, false, cond, ℕ, suc, ◌≤◌, ◌<◌, ltb, length, get_or, take}
-use Rattle.std.proofs.Common.{ap, sym, ◌∙◌, arith, take-suc, ltb-true, ltb-false}
-use mathlib.Core.List.{List, [], ◌∷◌, ◌++◌, reverse, append_assoc, reverse-append, reverse-reverse, reverse-cons}
-use Rattle.machine.specs.declared.Current.TheVariants.{Is, Wrong}
+use Rattle.std.specs.Prelude.{◌≡◌, refl, Bool, true, false, cond, ℕ, suc, ◌≤◌, ◌<◌, ltb, length, get_or, take, Some, None, List, [], ◌∷◌, ◌++◌, reverse}
+use Rattle.std.proofs.Common.{ap, sym, ◌∙◌, arith, take-suc, ltb-true, ltb-false, append_assoc}
+use Rattle.std.proofs.lemmas.List.{reverse-append, reverse-reverse}
+use mathlib.Core.List.{reverse-cons}
 use Rattle.machine.specs.Machine.{terminal as as_terminal, current}
 use Rattle.soundness.specs.Derivation.{Terminals, no-terminals, terminal}
 
@@ -34,18 +34,18 @@ pub data At (T : ℕ) (tokens : List ℕ) (i a : ℕ) : Type 0 where
   at-end : length tokens ≤ i → a ≡ 0 → At T tokens i a
   at-token : i < length tokens → get_or tokens i 0 ≡ a → 1 ≤ a → a < T → At T tokens i a
 
-pub current-at : (T : ℕ) (tokens : List ℕ) (i a : ℕ) → current T tokens i ≡ Is a → At T tokens i a
+pub current-at : (T : ℕ) (tokens : List ℕ) (i a : ℕ) → current T tokens i ≡ Some a → At T tokens i a
 unfolding current
 current-at T tokens i a e = at (ltb i (length tokens)) refl e
   where
     inside : i < length tokens → (p q : Bool) → ltb 0 (get_or tokens i 0) ≡ p → ltb (get_or tokens i 0) T ≡ q
-        → cond p (cond q (Is (get_or tokens i 0)) Wrong) Wrong ≡ Is a → At T tokens i a
+        → cond p (cond q (Some (get_or tokens i 0)) None) None ≡ Some a → At T tokens i a
     inside h true true u v w =
         let k : get_or tokens i 0 ≡ a = cc in
         at-token h k (omega (arith, ltb-true 0 (get_or tokens i 0) u)) (rw (← k) (ltb-true (get_or tokens i 0) T v))
     inside h true false u v w = let z : ◌≡◌ {A = ℕ} 0 1 = cc in absurd (omega arith)
     inside h false q u v w = let z : ◌≡◌ {A = ℕ} 0 1 = cc in absurd (omega arith)
 
-    at : (p : Bool) → ltb i (length tokens) ≡ p → cond p (as_terminal T (get_or tokens i 0)) (Is 0) ≡ Is a → At T tokens i a
+    at : (p : Bool) → ltb i (length tokens) ≡ p → cond p (as_terminal T (get_or tokens i 0)) (Some 0) ≡ Some a → At T tokens i a
     at true u w = inside (ltb-true _ _ u) (ltb 0 (get_or tokens i 0)) (ltb (get_or tokens i 0) T) refl refl w
     at false u w = let k : 0 ≡ a = cc in at-end (ltb-false _ _ u) (sym k)

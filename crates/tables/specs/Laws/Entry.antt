@@ -1,12 +1,11 @@
 -- What an entry is where ENTRY does not name it, and what a table is where ENTRY is not said. Assumes nothing.
-use Rattle.std.specs.Prelude.{◌≡◌, ◌≢◌, Bool, not, List, eqb, ℤ, pos, negsuc, length, get_or}
+use Rattle.std.proofs.lemmas.Bool.{eqb-false, not-true}
+use Rattle.std.specs.Prelude.{◌≡◌, ◌≢◌, Bool, not, List, eqb, ℤ, pos, negsuc, length, get_or, ℕ, zero, suc, ◌+◌, ◌*◌, ◌%◌, ◌/◌, ◌≤◌, ◌<◌}
 use Rattle.std.proofs.Math.Path.{refl}
-use Rattle.std.proofs.Common.{◌∙◌, div-lt_iff_lt-mul, arith}
+use Rattle.std.proofs.Common.{◌∙◌, div-lt_iff_lt-mul, arith, lt-ltb, le-ltb, ltb-true, ltb-false, le-leb, leb-true, eq-eqb, ne_eqb, eqb-true}
 use Rattle.std.proofs.Math.Bool.{true, false}
-use Prim.Native.Nat.{ℕ, zero, suc, ◌+◌, ◌*◌, ◌%◌, ◌/◌, ◌≤◌, ◌<◌}
 use Rattle.std.proofs.Math.Nat.{mul-add-mod_self_right, mod-eq_of_lt, mod-lt, mul-le-mul_right, div-add-mod'}
 use Rattle.std.proofs.Math.Dec.{ltb, eqb-suc-zero}
-use borrow.Author.Tests.{lt-ltb, le-ltb, ltb-true, ltb-false, le-leb, leb-true, eq-eqb, ne_eqb, eqb-true, eqb-false, not-true}
 use Rattle.tables.specs.declared.Sizes.{Sizes}
 use Rattle.tables.specs.Entry.{entry_at, good_signed, good_entry, good_at}
 use Rattle.tables.specs.Laws.Tests.{clash, and-true}

@@ -1,13 +1,11 @@
 -- What the filled table answers. Assumes nothing.
-use Rattle.std.specs.Prelude.{◌≡◌, refl, ◌≢◌, Bool, true, false, cond, List, ℕ, suc, ◌-◌, ◌<◌, eqb, ℤ, pos, negsuc, get_or}
+use Rattle.std.specs.Prelude.{◌≡◌, refl, ◌≢◌, Bool, true, false, cond, List, ℕ, suc, ◌-◌, ◌<◌, eqb, ℤ, pos, negsuc, get_or, Option, Some, None}
 use Rattle.std.proofs.Common.{arith}
 use Rattle.std.proofs.lemmas.Bool.{eqb-false}
 use Rattle.number.specs.Number.{sign_of}
 use Rattle.tables.specs.declared.Sizes.{Sizes}
 use Rattle.tables.specs.declared.Action.{Action}
 use Rattle.tables.specs.declared.Action.TheVariants.{Blank, Shift, Reduce, Accept}
-use Rattle.tables.specs.declared.Goto.{Goto}
-use Rattle.tables.specs.declared.Goto.TheVariants as goto
 use Rattle.tables.specs.Entry.{entry_at, action_of, action_at, goto_at}
 use Rattle.tables.specs.Filled.{signed_action, signed_goto, filled_action, filled_goto, filled_action_at, filled_goto_at}
 
@@ -20,9 +18,9 @@ action-stays r (Shift t) n = refl
 action-stays r (Reduce q) n = refl
 action-stays r Accept n = refl
 
-goto-stays : (t : ℕ) (x : Goto) → x ≢ goto.Blank → filled_goto t x ≡ x
-goto-stays t goto.Blank n = absurd (n refl)
-goto-stays t (goto.To s) n = refl
+goto-stays : (t : ℕ) (x : Option ℕ) → x ≢ None → filled_goto t x ≡ x
+goto-stays t None n = absurd (n refl)
+goto-stays t (Some s) n = refl
 
 module _ (z : Sizes) (table : List ℤ) (srule : List ℕ) (s a : ℕ) where
   -- a written action stays as it is
@@ -37,12 +35,12 @@ module _ (z : Sizes) (table : List ℤ) (srule : List ℕ) (s a : ℕ) where
 
 module _ (z : Sizes) (table : List ℤ) (sgoto : List ℕ) (s x : ℕ) where
   -- a written goto stays as it is
-  pub written-goto : goto_at z table s x ≢ goto.Blank → filled_goto_at z table sgoto s x ≡ goto_at z table s x
+  pub written-goto : goto_at z table s x ≢ None → filled_goto_at z table sgoto s x ≡ goto_at z table s x
   unfolding filled_goto_at
   written-goto n = goto-stays (get_or sgoto (x - z.terminals) 0) (goto_at z table s x) n
 
   -- a blank one is the signed state of the nonterminal
-  pub blank-goto : goto_at z table s x ≡ goto.Blank → filled_goto_at z table sgoto s x ≡ signed_goto (get_or sgoto (x - z.terminals) 0)
+  pub blank-goto : goto_at z table s x ≡ None → filled_goto_at z table sgoto s x ≡ signed_goto (get_or sgoto (x - z.terminals) 0)
   unfolding filled_goto_at
   blank-goto e = rw e
 

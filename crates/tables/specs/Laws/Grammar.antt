@@ -1,24 +1,14 @@
 -- What a rule is where GRAMMAR does not name it, and what a grammar is where GRAMMAR is not said. Assumes nothing.
-use Rattle.std.specs.Prelude.{◌≡◌, refl, ◌≢◌, Bool, true, false, not, List, ltb, eqb, length, get_or, take, drop}
-use Prim.Native.Nat.{ℕ, zero, suc, ◌-◌, ◌≤◌, ◌<◌}
-use native.Mathlib.Omega.{arith}
-use Rattle.std.proofs.Common.{length-drop, length-take-le}
+use Rattle.std.proofs.lemmas.Bool.{eqb-false, not-true}
+use Rattle.std.specs.Prelude.{◌≡◌, refl, ◌≢◌, Bool, true, false, not, List, ltb, eqb, length, get_or, take, drop, ℕ, zero, suc, ◌-◌, ◌≤◌, ◌<◌}
+use Rattle.std.proofs.Common.{length-drop, length-take-le, arith, lt-ltb, ltb-true, ltb-false, eq-eqb, ne_eqb, eqb-true}
 use Rattle.std.proofs.Math.ListN.{get_or-eq_default}
-use borrow.Author.Tests.{lt-ltb, ltb-true, ltb-false, eq-eqb, ne_eqb, eqb-true, eqb-false, not-true}
 use Rattle.tables.specs.declared.Sizes.{Sizes}
-use Rattle.tables.specs.declared.Lowest.TheVariants.{At}
 use Rattle.tables.specs.Lists.{all, sum}
-use Rattle.tables.specs.Grammar.{Grammar, grammar, right_at, inner, on_right, good_sides, good_rule, lowest_rule}
+use Rattle.tables.specs.Grammar.{Grammar, grammar, right_at, inner, on_right, good_sides, good_rule}
 use Rattle.tables.specs.Laws.Tests.{and-true}
 use Rattle.tables.specs.Laws.Lists.{all-at, all_in, sum_more, sum-part}
 use Rattle.tables.specs.Verdict.{Passed}
-use Rattle.tables.specs.Laws.Lowest.{at_least}
-
-module _ (z : Sizes) (left lens rights : List ℕ) where
-  -- the lowest bad rule is a rule
-  pub rule-below : {i : ℕ} → lowest_rule z left lens rights ≡ At i → i < z.rules
-  unfolding lowest_rule
-  rule-below {i} e = (at_least (good_rule z left lens rights) z.rules i e).0
 
 -- where the right sides are as long together as the lengths say, each is as long as its own
 pub right-length : (lens rights : List ℕ) → sum lens ≡ length rights → (i : ℕ) → length (right_at lens rights i) ≡ get_or lens i 0

@@ -1,26 +1,22 @@
 -- The judgement is right in both directions: what it says is the one verdict there is, and OK means that all is well formed. Assumes nothing.
-use Rattle.std.specs.Prelude.{◌≡◌, Bool, cond, List, [], ℕ, zero, suc, ◌+◌, eqb, ℤ, length, get_or}
+use Rattle.std.specs.Prelude.{◌≡◌, Bool, cond, List, [], ℕ, zero, suc, ◌+◌, eqb, ℤ, length, get_or, Option, Result, Ok, Err, Some, None}
 use Rattle.std.proofs.Math.Path.{refl}
 use Rattle.std.proofs.Common.{sym, ap, ◌∙◌, arith}
 use Rattle.std.proofs.Math.Bool.{true, false}
 use Rattle.tables.specs.declared.Sizes.{Sizes}
-use Rattle.tables.specs.declared.Lowest.{Lowest}
-use Rattle.tables.specs.declared.Lowest.TheVariants.{At, Nowhere}
-use Rattle.tables.specs.declared.Judged.{Judged}
-use Rattle.tables.specs.declared.Judged.TheVariants.{Good, Size, Grammar, Entry, State, Nonterminal}
+use Rattle.tables.specs.declared.Refusal.{Refusal}
+use Rattle.tables.specs.declared.Refusal.TheVariants.{Size, Grammar, Entry, State, Nonterminal}
 use Rattle.tables.specs.Said.{Said, OK, SIZE, GRAMMAR, ENTRY, SIGN-STATE, SIGN-NONTERMINAL}
 use Rattle.tables.specs.Size.{all_fit}
 use Rattle.tables.specs.Grammar.{grammar, good_rule, lowest_rule}
-use Rattle.tables.specs.Entry.{lowest_entry}
+use Rattle.tables.specs.Entry.{lowest_entry, good_at}
 use Rattle.tables.specs.Signing.{signing, good_signature, good_target, lowest_state, lowest_target}
-use Rattle.tables.specs.Verdict.{Verdict, sizes, rule, entry, state, target, good}
+use Rattle.tables.specs.Verdict.{Verdict, sizes, rule, entry, state, target, good, Passed}
 use Rattle.tables.specs.Judgement.{said_of, named, sign_judgement, judgement}
 use Rattle.tables.specs.Lists.{lowest}
-use Rattle.tables.specs.Verdict.{Passed}
 use Rattle.tables.specs.Laws.Lowest.{lowest-at, lowest-nowhere, at_least, nowhere-passed}
 use Rattle.tables.specs.Laws.Size.{AllFit, all_fit_lem, fit_all, GrammarFits, grammar_fits_lem, SigningFits, signing_fits_lem, table_fits_lem}
 use Rattle.tables.specs.Laws.Grammar.{GrammarOk, grammar-ok, ok-grammar}
-use Rattle.tables.specs.Entry.{good_at}
 use Rattle.tables.specs.Laws.Entry.{TableOk, table-ok, ok-table}
 use Rattle.tables.specs.Laws.Signing.{SigningOk, signing-ok, ok-signatures, ok-targets}
 
@@ -49,25 +45,25 @@ module _ (z : Sizes) (states : ℕ) (left lens rights : List ℕ) (table : List 
   module _ (f : fits ≡ true) where
     module _ (p : Passed rule_at z.rules) where
       module _ (q : Passed entry_is (length table)) where
-        by-target : Passed state_at (length srule) → (l : Lowest) → lowest target_at (length sgoto) ≡ l
+        by-target : Passed state_at (length srule) → (l : Option ℕ) → lowest target_at (length sgoto) ≡ l
             → May (named l (λ i. SIGN-NONTERMINAL (z.terminals + i)) (OK []))
-        by-target r (At i) e = target i f p q r (at_least target_at (length sgoto) i e)
-        by-target r Nowhere e = good f p q r (nowhere-passed target_at (length sgoto) e)
+        by-target r (Some i) e = target i f p q r (at_least target_at (length sgoto) i e)
+        by-target r None e = good f p q r (nowhere-passed target_at (length sgoto) e)
 
-        by_state : (l : Lowest) → lowest state_at (length srule) ≡ l
+        by_state : (l : Option ℕ) → lowest state_at (length srule) ≡ l
             → May (named l SIGN-STATE (named (lowest target_at (length sgoto)) (λ i. SIGN-NONTERMINAL (z.terminals + i)) (OK [])))
-        by_state (At s) e = state s f p q (at_least state_at (length srule) s e)
-        by_state Nowhere e = by-target (nowhere-passed state_at (length srule) e) (lowest target_at (length sgoto)) refl
+        by_state (Some s) e = state s f p q (at_least state_at (length srule) s e)
+        by_state None e = by-target (nowhere-passed state_at (length srule) e) (lowest target_at (length sgoto)) refl
 
-      by-entry : (l : Lowest) → lowest entry_is (length table) ≡ l → May (named l ENTRY (sign_judgement z states srule sgoto))
+      by-entry : (l : Option ℕ) → lowest entry_is (length table) ≡ l → May (named l ENTRY (sign_judgement z states srule sgoto))
       unfolding sign_judgement lowest_state lowest_target
-      by-entry (At i) e = entry i f p (at_least entry_is (length table) i e)
-      by-entry Nowhere e = by_state (nowhere-passed entry_is (length table) e) (lowest state_at (length srule)) refl
+      by-entry (Some i) e = entry i f p (at_least entry_is (length table) i e)
+      by-entry None e = by_state (nowhere-passed entry_is (length table) e) (lowest state_at (length srule)) refl
 
-    by-rule : (l : Lowest) → lowest rule_at z.rules ≡ l
+    by-rule : (l : Option ℕ) → lowest rule_at z.rules ≡ l
         → May (named l (λ i. GRAMMAR (i + 1)) (named (lowest entry_is (length table)) ENTRY (sign_judgement z states srule sgoto)))
-    by-rule (At i) e = rule i f (at_least rule_at z.rules i e)
-    by-rule Nowhere e = by-entry (nowhere-passed rule_at z.rules e) (lowest entry_is (length table)) refl
+    by-rule (Some i) e = rule i f (at_least rule_at z.rules i e)
+    by-rule None e = by-entry (nowhere-passed rule_at z.rules e) (lowest entry_is (length table)) refl
 
   -- what the judgement says is a verdict
   pub judged : May said
@@ -145,21 +141,21 @@ module _ (z : Sizes) (states : ℕ) (left lens rights : List ℕ) (table : List 
       (ok-targets z states srule sgoto (omega (arith, y.count.least)) w.signatures)))
 
 -- the judgement that a number and its values stand for
-abbrev judged_of : ℕ → List ℕ → Judged
-judged_of zero vs = Good
-judged_of (suc zero) vs = Size
-judged_of (suc (suc zero)) vs = Grammar (get_or vs 0 0)
-judged_of (suc (suc (suc zero))) vs = Entry (get_or vs 0 0)
-judged_of (suc (suc (suc (suc n)))) vs = cond (eqb (get_or vs 0 0) 0) (State (get_or vs 1 0)) (Nonterminal (get_or vs 1 0))
+abbrev judged_of : ℕ → List ℕ → Result (Unit {0}) Refusal
+judged_of zero vs = Ok tt
+judged_of (suc zero) vs = Err Size
+judged_of (suc (suc zero)) vs = Err (Grammar (get_or vs 0 0))
+judged_of (suc (suc (suc zero))) vs = Err (Entry (get_or vs 0 0))
+judged_of (suc (suc (suc (suc n)))) vs = Err (cond (eqb (get_or vs 0 0) 0) (State (get_or vs 1 0)) (Nonterminal (get_or vs 1 0)))
 
-read_back : (a : Judged) → judged_of (said_of a).number (said_of a).values ≡ a
-read_back Good = refl
-read_back Size = refl
-read_back (Grammar r) = refl
-read_back (Entry i) = refl
-read_back (State s) = refl
-read_back (Nonterminal x) = refl
+read_back : (a : Result (Unit {0}) Refusal) → judged_of (said_of a).number (said_of a).values ≡ a
+read_back (Ok u) = refl
+read_back (Err Size) = refl
+read_back (Err (Grammar r)) = refl
+read_back (Err (Entry i)) = refl
+read_back (Err (State s)) = refl
+read_back (Err (Nonterminal x)) = refl
 
 -- two outcomes that a contract by `said_of` allows are equal
-pub said-once : (a b : Judged) → said_of a ≡ said_of b → a ≡ b
+pub said-once : (a b : Result (Unit {0}) Refusal) → said_of a ≡ said_of b → a ≡ b
 said-once a b e = sym (read_back a) ∙ ap (λ (s : Said). judged_of s.number s.values) e ∙ read_back b

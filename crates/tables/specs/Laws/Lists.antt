@@ -1,12 +1,12 @@
 -- Laws of all, the sum and among. Assumes nothing.
-use Rattle.std.specs.Prelude.{◌≡◌, Bool, true, false, ◌||◌, eqb, length, get_or, take}
+use Rattle.std.specs.Prelude.{◌≡◌, Bool, true, false, ◌||◌, eqb, length, get_or, take, List, [], ◌∷◌, ℕ, zero, suc, ◌+◌, ◌*◌, ◌≤◌, ◌<◌, sum as total}
 use Rattle.std.proofs.Math.Path.{refl}
-use Rattle.std.proofs.Common.{sym, ◌∙◌, mul-suc, arith, length-take-le, get_or-take, ne_eqb}
+use Rattle.std.proofs.lemmas.List.Sums.{sum_by-cons}
+use Rattle.std.proofs.Common.{sym, ap, ◌∙◌, mul-suc, arith, length-take-le, get_or-take, ne_eqb}
 use Rattle.std.proofs.Math.Bool.{or-false, or_assoc}
-use mathlib.Core.List.{List, [], ◌∷◌}
-use Prim.Native.Nat.{ℕ, zero, suc, ◌+◌, ◌*◌, ◌≤◌, ◌<◌}
 use Rattle.std.proofs.lemmas.Bool.{eqb-false}
 use Rattle.tables.specs.Laws.Tests.{clash, and-true, and-false}
+use Rattle.std.specs.List.{list_all}
 use Rattle.tables.specs.Lists.{all, sum, among}
 
 -- ---- all
@@ -29,7 +29,19 @@ module _ (f : ℕ → Bool) where
   all-at (x ∷ l) h zero k = (and-true (f x) h).0
   all-at (x ∷ l) h (suc i) k = all-at l (and-true (f x) h).1 i (omega arith)
 
+-- it is the library's word
+pub all_is : (f g : ℕ → Bool) → ((x : ℕ) → f x ≡ g x) → (l : List ℕ) → list_all f l ≡ all g l
+unfolding all
+all_is f g e [] = refl
+all_is f g e (x ∷ l) = rw (e x, all_is f g e l)
+
 -- ---- the sum
+
+-- it is the library's word
+pub sum_is : (l : List ℕ) → total l ≡ sum l
+unfolding sum
+sum_is [] = refl
+sum_is (x ∷ l) = sum_by-cons (λ n. n) x l ∙ ap (λ k. x + k) (sum_is l)
 
 pub sum_more : (l : List ℕ) (i : ℕ) → i < length l → sum (take (suc i) l) ≡ sum (take i l) + get_or l i 0
 unfolding sum

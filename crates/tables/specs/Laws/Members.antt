@@ -1,9 +1,9 @@
 -- What `among` and `all` say of the members of a list. Assumes nothing.
-use Rattle.std.specs.Prelude.{◌≡◌, ◌⊎◌, Bool, ◌&&◌, ◌||◌, ℕ, eqb}
+use Rattle.std.specs.Prelude.{◌≡◌, ◌⊎◌, Bool, ◌&&◌, ◌||◌, ℕ, eqb, List, [], ◌∷◌}
 use Rattle.std.proofs.Math.Path.{refl, ap}
 use Rattle.std.proofs.Common.{◌∙◌, inl, inr, eq-eqb, eqb-true}
 use Rattle.std.proofs.Math.Bool.{true, false}
-use mathlib.Core.List.{List, [], ◌∷◌, Memᴰ}
+use mathlib.Core.List.{Memᴰ}
 use Rattle.tables.specs.Lists.{all, among}
 use Rattle.tables.specs.Laws.Tests.{clash, and-true, or-true}
 

@@ -1,10 +1,7 @@
 -- The numbers of what the judgements say, and what 0 tells. Assumes nothing.
-use Rattle.std.specs.Prelude.{◌≡◌, refl, ◌≢◌, ◌⊎◌, Bool, true, false, cond, List, [], ℕ, ◌+◌, ◌≤◌, ℤ, length, get_or}
-use Rattle.std.proofs.Common.{inl, inr, ⊎_elim}
-use native.Mathlib.Omega.{arith}
+use Rattle.std.specs.Prelude.{◌≡◌, refl, ◌≢◌, ◌⊎◌, Bool, true, false, cond, List, [], ℕ, ◌+◌, ◌≤◌, ℤ, length, get_or, Option, Some, None}
+use Rattle.std.proofs.Common.{inl, inr, ⊎_elim, arith}
 use Rattle.tables.specs.declared.Sizes.{Sizes}
-use Rattle.tables.specs.declared.Lowest.{Lowest}
-use Rattle.tables.specs.declared.Lowest.TheVariants.{At, Nowhere}
 use Rattle.tables.specs.Said.{Said, OK, SIZE, GRAMMAR, ENTRY, SIGN-STATE, SIGN-NONTERMINAL}
 use Rattle.tables.specs.Size.{signing_fits, all_fit}
 use Rattle.tables.specs.Grammar.{lowest_rule}
@@ -18,9 +15,9 @@ use Rattle.tables.specs.Verdict.{Verdict, sizes, rule, entry, state, target, goo
 use Rattle.tables.specs.Laws.Judgement.{judged}
 
 -- where 0 is said, none is named and what comes after says 0
-named-zero : (l : Lowest) (name : ℕ → Said) (next : Said) → ((k : ℕ) → (name k).number ≢ 0) → (named l name next).number ≡ 0 → (l ≡ Nowhere) × (next.number ≡ 0)
-named-zero (At k) name next n e = absurd (n k e)
-named-zero Nowhere name next n e = (refl, e)
+named-zero : (l : Option ℕ) (name : ℕ → Said) (next : Said) → ((k : ℕ) → (name k).number ≢ 0) → (named l name next).number ≡ 0 → (l ≡ None) × (next.number ≡ 0)
+named-zero (Some k) name next n e = absurd (n k e)
+named-zero None name next n e = (refl, e)
 
 -- where 0 is said, the sizes fit and what comes after says 0
 size-zero : (b : Bool) (next : Said) → (cond b next SIZE).number ≡ 0 → (b ≡ true) × (next.number ≡ 0)
@@ -35,13 +32,13 @@ module _ (z : Sizes) (states : ℕ) (srule sgoto : List ℕ) where
   unfolding sign_judgement
   sign_low = by (lowest_state z srule) (lowest_target states sgoto)
     where
-      by : (l m : Lowest) → (named l SIGN-STATE (named m (λ i. SIGN-NONTERMINAL (z.terminals + i)) (OK []))).number ≤ 4
-      by (At s) m = omega arith
-      by Nowhere (At i) = omega arith
-      by Nowhere Nowhere = omega arith
+      by : (l m : Option ℕ) → (named l SIGN-STATE (named m (λ i. SIGN-NONTERMINAL (z.terminals + i)) (OK []))).number ≤ 4
+      by (Some s) m = omega arith
+      by None (Some i) = omega arith
+      by None None = omega arith
 
   -- where it is 0, no signature is bad
-  pub sign_zero : (sign_judgement z states srule sgoto).number ≡ 0 → (lowest_state z srule ≡ Nowhere) × (lowest_target states sgoto ≡ Nowhere)
+  pub sign_zero : (sign_judgement z states srule sgoto).number ≡ 0 → (lowest_state z srule ≡ None) × (lowest_target states sgoto ≡ None)
   unfolding sign_judgement
   sign_zero e =
       let s = named-zero (lowest_state z srule) SIGN-STATE _ (λ k q. omega arith) e in
@@ -85,10 +82,10 @@ module _ (z : Sizes) (states : ℕ) (left lens rights : List ℕ) (table : List 
   -- nothing is refused
   pub record Unrefused : Type 0 where
     pub fit : all_fit z states left lens rights table srule sgoto ≡ true
-    pub rules : lowest_rule z left lens rights ≡ Nowhere
-    pub entries : lowest_entry z states table ≡ Nowhere
-    pub signatures : lowest_state z srule ≡ Nowhere
-    pub targets : lowest_target states sgoto ≡ Nowhere
+    pub rules : lowest_rule z left lens rights ≡ None
+    pub entries : lowest_entry z states table ≡ None
+    pub signatures : lowest_state z srule ≡ None
+    pub targets : lowest_target states sgoto ≡ None
 
   -- that is so where the number is 0
   pub judged-zero : said.number ≡ 0 → Unrefused

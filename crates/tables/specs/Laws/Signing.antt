@@ -1,27 +1,24 @@
 -- What a signature is where SIGN does not name it, and what a signing is where SIGN is not said. Assumes nothing.
-use Rattle.std.specs.Prelude.{◌≡◌, ◌≢◌, Bool, ◌&&◌, ◌||◌, List, ℕ, ◌+◌, ◌-◌, ◌≤◌, ◌<◌, leb, length, take}
+use Rattle.std.proofs.lemmas.Bool.{eqb-false, not-true}
+use Rattle.std.specs.Prelude.{◌≡◌, ◌≢◌, Bool, ◌&&◌, ◌||◌, List, ℕ, ◌+◌, ◌-◌, ◌≤◌, ◌<◌, leb, length, take, position}
 use Rattle.std.proofs.Math.Path.{refl}
-use Rattle.std.proofs.Common.{sym, ap, ◌∙◌}
+use Rattle.std.proofs.Common.{sym, ap, ◌∙◌, arith, lt-ltb, ltb-true, ltb-false, le-leb, leb-true, eq-eqb, ne_eqb, eqb-true}
 use Rattle.std.proofs.Math.Logic.{⊎_elim}
 use Rattle.std.proofs.Math.Bool.{true, false, not}
-use native.Mathlib.Omega.{arith}
 use Rattle.std.proofs.Math.Dec.{ltb, eqb}
 use Rattle.std.proofs.Math.ListN.{get_or, get_or-eq_default}
-use borrow.Author.Tests.{lt-ltb, ltb-true, ltb-false, le-leb, leb-true, eq-eqb, ne_eqb, eqb-true, eqb-false, not-true}
 use Rattle.tables.specs.declared.Sizes.{Sizes}
-use Rattle.tables.specs.declared.Lowest.TheVariants.{At}
 use Rattle.tables.specs.Lists.{among}
-use Rattle.tables.specs.Signing.{Signing, signing, good_signature, good_target, lowest_target}
+use Rattle.tables.specs.Signing.{Signing, signing, good_signature, good_target, lowest_state}
 use Rattle.tables.specs.Laws.Tests.{and-true, or-true}
 use Rattle.tables.specs.Laws.Lists.{among-at, not-among}
 use Rattle.tables.specs.Verdict.{Passed}
-use Rattle.tables.specs.Laws.Lowest.{at_least}
+use Rattle.tables.specs.Laws.Lowest.{position_lowest}
 
-module _ (states : ℕ) (sgoto : List ℕ) where
-  -- the lowest bad nonterminal is one
-  pub target_below : {i : ℕ} → lowest_target states sgoto ≡ At i → i < length sgoto
-  unfolding lowest_target
-  target_below {i} e = (at_least (good_target states sgoto) (length sgoto) i e).0
+-- the lowest bad state is the first place of a bad signature
+pub lowest_state_is : (z : Sizes) (srule : List ℕ) → lowest_state z srule ≡ position (λ r. not (good_signature z r)) srule
+unfolding lowest_state
+lowest_state_is z srule = sym (position_lowest (good_signature z) srule)
 
 -- ---- the tests and what they mean
 

@@ -1,7 +1,7 @@
 -- What the numbers and lengths are where SIZE is not said. Assumes nothing.
+use Rattle.std.proofs.Common.{leb-true, eqb-true, le-leb, eq-eqb}
 use Rattle.std.specs.Prelude.{◌≡◌, true, List, ℕ, ◌+◌, ◌-◌, ◌*◌, ◌≤◌, ◌<◌, eqb, ℤ, length, get_or}
 use Rattle.std.proofs.Math.Dec.{leb}
-use borrow.Author.Tests.{leb-true, eqb-true, le-leb, eq-eqb}
 use Rattle.tables.specs.declared.Sizes.{Sizes}
 use Rattle.tables.specs.Lists.{all, sum}
 use Rattle.tables.specs.Size.{is_within, numbers_fit, states_fit, rights_fit, grammar_fits, table_fits, signing_fits, all_fit}

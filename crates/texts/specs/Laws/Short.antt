@@ -3,11 +3,12 @@ use Rattle.std.specs.Prelude.{◌≡◌, refl, Bool, true, false, List, [], ◌�
 use Rattle.std.proofs.Common.{pow-suc, arith, length-append, ltb-true, ltb-false}
 use Rattle.sheets.specs.Decimal.{digit, decimal}
 use Rattle.sheets.specs.Sheet.{line}
-use Rattle.sheets.specs.Emit.{Room, Emitted}
+use Rattle.sheets.specs.Emit.{Room}
 use Rattle.sheets.specs.Laws.Digits.{decimal-one, decimal-more}
 use Rattle.sheets.specs.Laws.Entries.{line-length}
-use Rattle.sheets.specs.Laws.Emit.{then}
-use Rattle.texts.specs.Brief.{Brief}
+use Rattle.texts.specs.declared.pen.Pen.{Pen}
+use Rattle.texts.specs.Pen.{Puts, Brief}
+use Rattle.texts.specs.Laws.Pen.{then}
 
 -- a number below 10 to the power of k + 1 has at most k + 1 digits
 pub decimal-short : (k n : ℕ) → n < 10 ^ suc k → length (decimal n) ≤ suc k
@@ -33,26 +34,28 @@ pub line-room : (key : List ℕ) (n : ℕ) → length key ≤ 9 → n < 2 ^ 32 �
 line-room key n l h = record { fits = omega (arith, line-length key (decimal n), word-short n h) }
 
 -- a line that was put ends near
-pub line-place : {before after : List ℕ} {to : ℕ} (key : List ℕ) (n : ℕ) → length key ≤ 5 → n < 2 ^ 32 → Emitted before 0 (line key (decimal n)) to after → to ≤ 17
-line-place key n l h e = omega (arith, e.place, line-length key (decimal n), word-short n h)
+pub line-place : {before after : Pen} (key : List ℕ) (n : ℕ) → length key ≤ 5 → n < 2 ^ 32 → before.at ≡ 0 → Puts before (line key (decimal n)) after → after.at ≤ 17
+line-place key n l h z e = omega (arith, e.put.place, line-length key (decimal n), word-short n h)
 
 -- ---- few bytes
 
-module _ {before after : List ℕ} {at to : ℕ} where
-  pub digits-brief : (n : ℕ) → n < 2 ^ 32 → Emitted before at (decimal n) to after → Brief 10 before at (decimal n) to after
-  digits-brief n h e = record { put = e; few = word-short n h }
+module _ {before after : Pen} where
+  pub digits-brief : (n : ℕ) → n < 2 ^ 32 → Puts before (decimal n) after → Brief 10 before (decimal n) after
+  digits-brief n h e = record { puts = e; few = word-short n h }
 
-  pub byte-brief : {b : ℕ} → Emitted before at (b ∷ []) to after → Brief 1 before at (b ∷ []) to after
-  byte-brief e = record { put = e; few = omega arith }
+  pub byte-brief : {b : ℕ} → Puts before (b ∷ []) after → Brief 1 before (b ∷ []) after
+  byte-brief e = record { puts = e; few = omega arith }
 
   -- the place after few bytes is not far
-  pub brief-place : {most : ℕ} {bytes : List ℕ} → Brief most before at bytes to after → to ≤ at + most
-  brief-place b = omega (arith, b.put.place, b.few)
+  pub brief-place : {most : ℕ} {bytes : List ℕ} → Brief most before bytes after → after.at ≤ before.at + most
+  brief-place b = omega (arith, b.puts.put.place, b.few)
 
-pub brief-then : {before middle after : List ℕ} {at place to m k : ℕ} {s t : List ℕ} → Brief m before at s place middle → Brief k middle place t to after
-    → Brief (m + k) before at (s ++ t) to after
-brief-then {s = s} {t = t} e f = record { put = then e.put f.put; few = omega (arith, e.few, f.few, length-append s t) }
+pub brief-then : {before middle after : Pen} {m k : ℕ} {s t : List ℕ} → Brief m before s middle → Brief k middle t after → Brief (m + k) before (s ++ t) after
+brief-then {s = s} {t = t} e f = record { puts = then e.puts f.puts; few = omega (arith, e.few, f.few, length-append s t) }
 
 -- more is allowed
-pub brief-more : {before after : List ℕ} {at to m k : ℕ} {s : List ℕ} → m ≤ k → Brief m before at s to after → Brief k before at s to after
-brief-more l b = record { put = b.put; few = omega (arith, b.few) }
+pub brief-more : {before after : Pen} {m k : ℕ} {s : List ℕ} → m ≤ k → Brief m before s after → Brief k before s after
+brief-more l b = record { puts = b.puts; few = omega (arith, b.few) }
+
+-- how few bytes are put, step by step
+pub ruleset brief_steps = (word_room, digits-brief, byte-brief, brief-place, brief-then, brief-more)

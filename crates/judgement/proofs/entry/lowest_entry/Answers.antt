@@ -1,23 +1,15 @@
-use mathlib.Core.Path.{◌≡◌, sym, ◌∙◌}
-use mathlib.Core.Bool.{Bool, true, false}
-use mathlib.Core.List.{List}
-use Prim.Native.Nat.{ℕ, ◌+◌, ◌%◌, ◌≤◌, ◌<◌}
-use native.Mathlib.Nat.{zero-mod, suc-mod, mod_self, mod-eq_of_lt}
-use native.Mathlib.Numerals.{add-one}
-use native.Mathlib.Omega.{arith}
-use lib.IntN.{ℤ, pos}
-use lib.ListN.{length, get_or}
-use borrow.Author.Tests.{not-true, not-false}
+use Rattle.std.proofs.Math.Nat.{zero-mod, suc-mod, mod_self}
+use Rattle.std.proofs.Common.{rules, ◌≡◌, Bool, true, false, List, ℕ, ◌+◌, ◌%◌, ◌≤◌, ◌<◌, ℤ, pos, length, get_or, sym, ◌∙◌, mod-eq_of_lt, add-one, arith}
 use Rattle.number.specs.Number.{sign_of}
 use Rattle.number.specs.declared.Signed.{Signed}
 use Rattle.tables.specs.declared.Sizes.{Sizes}
-use Rattle.tables.specs.declared.Lowest.TheVariants.{At, Nowhere}
-use Rattle.tables.specs.Entry.{good_signed, good_entry, lowest_entry}
-use Rattle.tables.specs.Entry.{good_at}
+use Rattle.std.specs.Prelude.{Some, None}
+use Rattle.tables.specs.Entry.{good_signed, good_entry, lowest_entry, good_at}
 use Rattle.tables.specs.Laws.Lowest.{walk-begin, walk-on, walk-bad, walk_end}
 use Rattle.tables.specs.Laws.Size.{NumbersFit, numbers_fit_lem}
 use Rattle.judgement.proofs.entry.lowest_entry.Invariants.{Passing}
 use Rattle.judgement.proofs.entry.lowest_entry.Goals as goal
+use Rattle.judgement.proofs.entry.lowest_entry.Goals.{then-a-z, else-a-z}
 
 module _ {z : Sizes} {states : ℕ} {table : List ℤ} where
   begin : 0 < z.symbols → Passing z states table 0 0
@@ -45,11 +37,11 @@ module _ {z : Sizes} {states : ℕ} {table : List ℤ} where
         let h : a + 1 < z.symbols = omega (arith, inv.inside) in
         (h, after ∙ mod-eq_of_lt h)
 
-    bad : i < length table → good_at z states table i ≡ false → At i ≡ lowest_entry z states table
+    bad : i < length table → good_at z states table i ≡ false → Some i ≡ lowest_entry z states table
     unfolding lowest_entry
     bad h g = walk-bad inv.walk h g
 
-    none : length table ≤ i → Nowhere ≡ lowest_entry z states table
+    none : length table ≤ i → None ≡ lowest_entry z states table
     unfolding lowest_entry
     none h = walk_end inv.walk h
 
@@ -60,19 +52,18 @@ loop-i-init c =
 
 pub returns-then-not-entry_good : goal.returns-then-not-entry_good
 returns-then-not-entry_good c =
-    bad c.loop-i.invariant c.loop-i-test.true
-    (told c.loop-i.invariant _ _ c.at_i32.ensures c.entry_good.ensures ∙ not-true _ c.if-not-entry_good.true-raw)
-
-pub loop-i-preserved-then-a-z : goal.loop-i-preserved-then-a-z
-loop-i-preserved-then-a-z c =
-    next c.loop-i.invariant 0 c.loop-i-test.true (wraps c.loop-i.invariant c.if-a-z.true) (omega (arith, c.loop-i.invariant.inside))
-    (told c.loop-i.invariant _ _ c.at_i32.ensures c.entry_good.ensures ∙ not-false _ c.if-not-entry_good.false-raw)
+    let e : c.sign.result ≡ sign_of (get_or c.args.table.entries.now c.loop-i.i (pos 0)) = search rules in
+    bad c.loop-i.invariant c.loop-i-test.true (told c.loop-i.invariant _ _ e c.entry_good.ensures ∙ c.if-not-entry_good.true)
 
 pub loop-i-preserved : goal.loop-i-preserved
 loop-i-preserved c =
-    let g = goes_on c.loop-i.invariant c.if-a-z.false in
-    next c.loop-i.invariant _ c.loop-i-test.true g.1 g.0
-    (told c.loop-i.invariant _ _ c.at_i32.ensures c.entry_good.ensures ∙ not-false _ c.if-not-entry_good.false-raw)
+    let w = c.loop-i.invariant in
+    let e : c.sign.result ≡ sign_of (get_or c.args.table.entries.now c.loop-i.i (pos 0)) = search rules in
+    let g = told w _ _ e c.entry_good.ensures ∙ c.if-not-entry_good.false in
+    elim c.if-a-z.branch [
+      | then-a-z d ↦ rw d.a-is (next w 0 c.loop-i-test.true (wraps w d.if-a-z.true) (omega (arith, w.inside)) g)
+      | else-a-z d ↦ rw d.a-is (let n = goes_on w d.if-a-z.false in next w _ c.loop-i-test.true n.1 n.0 g)
+    ]
 
 pub returns : goal.returns
-returns c = none c.loop-i.invariant c.loop-i-test.false
+returns c = none c.loop-i.invariant (search rules)

@@ -1,8 +1,4 @@
-use mathlib.Core.Path.{◌≡◌}
-use mathlib.Core.List.{List}
-use Prim.Native.Nat.{ℕ, ◌-◌, ◌%◌, ◌<◌}
-use lib.IntN.{ℤ}
-use lib.ListN.{length}
+use Rattle.std.proofs.Common.{◌≡◌, List, ℕ, ◌%◌, ◌<◌, ℤ, length}
 use Rattle.tables.specs.declared.Sizes.{Sizes}
 use Rattle.tables.specs.Entry.{good_at}
 use Rattle.tables.specs.Laws.Lowest.{Walk}
@@ -15,7 +11,4 @@ pub record Passing (z : Sizes) (states : ℕ) (table : List ℤ) (i a : ℕ) : T
   pub walk : Walk (good_at z states table) (length table) i
 
 abbrev pub invariant-loop-i : goal.invariant-loop-i
-invariant-loop-i l = Passing l.z l.states l.table l.i l.a
-
-abbrev pub decreases-loop-i : goal.decreases-loop-i
-decreases-loop-i l = length l.table - l.i
+invariant-loop-i l = Passing l.z l.table.states l.table.entries.now l.i l.a

@@ -1,6 +1,4 @@
-use mathlib.Core.List.{List}
-use Prim.Native.Nat.{ℕ, ◌-◌}
-use lib.ListN.{length}
+use Rattle.std.proofs.Common.{List, ℕ}
 use Rattle.tables.specs.declared.Sizes.{Sizes}
 use Rattle.tables.specs.Grammar.{good_rule}
 use Rattle.tables.specs.Laws.Begins.{Begins}
@@ -13,7 +11,4 @@ pub record Passing (z : Sizes) (left lens rights : List ℕ) (i from : ℕ) : Ty
   pub walk : Walk (good_rule z left lens rights) z.rules i
 
 abbrev pub invariant-loop-i : goal.invariant-loop-i
-invariant-loop-i l = Passing l.z l.left l.lens l.rights l.i l.from
-
-abbrev pub decreases-loop-i : goal.decreases-loop-i
-decreases-loop-i l = length l.left - l.i
+invariant-loop-i l = Passing l.grammar.sizes l.grammar.left.now l.grammar.lens.now l.grammar.rights.now l.i l.from

@@ -1,21 +1,14 @@
-use mathlib.Core.Path.{◌≡◌, refl, sym, ◌∙◌}
-use mathlib.Core.Bool.{Bool, true, false, ◌||◌, or-true, or-false}
-use mathlib.Core.List.{List}
-use Prim.Native.Nat.{ℕ, zero, suc, ◌+◌, ◌≤◌, ◌<◌}
-use native.Mathlib.Numerals.{add-one}
-use native.Mathlib.Omega.{arith}
-use lib.Dec.{eqb}
-use lib.ListN.{length, get_or, set, take, replicate, length-set}
-use lib.Seq.{get_or-set_same, get_or-set_other}
-use borrow.Author.Tests.{lt-ltb, le-ltb, eq-eqb, ne_eqb, eqb-true, eqb-false}
-use Rattle.tables.specs.declared.Lowest.TheVariants.{At, Nowhere}
+use Rattle.std.proofs.lemmas.Bool.{eqb-false}
+use Rattle.std.proofs.Math.Bool.{or-true, or-false}
+use Rattle.std.proofs.Common.{rules, ◌≡◌, refl, Bool, true, false, ◌||◌, List, ℕ, zero, suc, ◌+◌, ◌≤◌, ◌<◌, eqb, length, get_or, set, take, replicate, sym, ◌∙◌, add-one, arith, length-set, get_or-set_same, get_or-set_other, lt-ltb, le-ltb, eq-eqb, ne_eqb, eqb-true}
+use Rattle.std.specs.Prelude.{Some, None}
 use Rattle.tables.specs.Lists.{among}
 use Rattle.tables.specs.Signing.{good_target, lowest_target}
 use Rattle.tables.specs.Laws.Lists.{among_none, among-more}
 use Rattle.tables.specs.Laws.Lowest.{walk-begin, walk-on, walk-bad, walk_end}
 use Rattle.judgement.proofs.signing.lowest_target.Invariants.{Passing}
 use Rattle.judgement.proofs.signing.lowest_target.Goals as goal
-use Rattle.judgement.proofs.signing.lowest_target.Goals.{then-t-ne0+else-i-eq0+else-states-t+else-seen-t, else-t-ne0}
+use Rattle.judgement.proofs.signing.lowest_target.Goals.{then-i-eq0-via-then-i-eq0, then-i-eq0-via-else-i-eq0+then-states-t, then-i-eq0-via-else-i-eq0+else-states-t+then-seen-t}
 
 unmarked : (n t : ℕ) → get_or (replicate n false) t false ≡ false
 unmarked zero t = refl
@@ -27,7 +20,7 @@ module _ {states : ℕ} {sgoto : List ℕ} where
   begin = record { walk = walk-begin; size = refl; marks = λ t h. unmarked 1024 t ∙ sym (among_none t sgoto) }
 
   module _ {seen : List Bool} {i : ℕ} (inv : Passing states sgoto seen i) (h : i < length sgoto) where
-    bad : good_target states sgoto i ≡ false → At i ≡ lowest_target states sgoto
+    bad : good_target states sgoto i ≡ false → Some i ≡ lowest_target states sgoto
     unfolding lowest_target
     bad g = walk-bad inv.walk h g
 
@@ -79,40 +72,31 @@ module _ {states : ℕ} {sgoto : List ℕ} where
                 marks = λ t p. mark-by t p (omega (arith, inv.size)) (eqb t (get_or sgoto i 0)) refl ∙ sym (rw (add-one i) (among-more t sgoto i h));
               }
 
-  done : {seen : List Bool} {i : ℕ} → Passing states sgoto seen i → length sgoto ≤ i → Nowhere ≡ lowest_target states sgoto
+  done : {seen : List Bool} {i : ℕ} → Passing states sgoto seen i → length sgoto ≤ i → None ≡ lowest_target states sgoto
   unfolding lowest_target
   done inv h = walk_end inv.walk h
 
 pub loop-i-init : goal.loop-i-init
 loop-i-init c = begin
 
-pub returns-then-i-eq0 : goal.returns-then-i-eq0
-returns-then-i-eq0 c =
+pub returns-then-i-eq0-clause-lowest : goal.returns-then-i-eq0-clause-lowest
+returns-then-i-eq0-clause-lowest c =
     let w = c.loop-i.invariant in
     let h = c.loop-i-test.true in
-    bad w h (start-signed w h c.if-t-ne0.true c.if-i-eq0.true)
+    let s = c.if-t-eq0.false in
+    elim c.then-i-eq0.branch [
+      | then-i-eq0-via-then-i-eq0 d ↦ bad w h (start-signed w h s d.if-i-eq0.true)
+      | then-i-eq0-via-else-i-eq0+then-states-t d ↦ bad w h (no-state w h s d.if-i-eq0.false d.if-states-t.true)
+      | then-i-eq0-via-else-i-eq0+else-states-t+then-seen-t d ↦ bad w h (twice w h s d.if-i-eq0.false d.if-states-t.false d.if-seen-t.true)
+    ]
 
-pub returns-then-states-t : goal.returns-then-states-t
-returns-then-states-t c =
-    let w = c.loop-i.invariant in
-    let h = c.loop-i-test.true in
-    bad w h (no-state w h c.if-t-ne0.true c.if-i-eq0.false c.if-states-t.true)
-
-pub returns-then-seen-t : goal.returns-then-seen-t
-returns-then-seen-t c =
-    let w = c.loop-i.invariant in
-    let h = c.loop-i-test.true in
-    bad w h (twice w h c.if-t-ne0.true c.if-i-eq0.false c.if-states-t.false c.if-seen-t.true)
+pub loop-i-preserved-then-t-eq0 : goal.loop-i-preserved-then-t-eq0
+loop-i-preserved-then-t-eq0 c = none-signed c.loop-i.invariant c.loop-i-test.true c.if-t-eq0.true
 
 pub loop-i-preserved : goal.loop-i-preserved
 loop-i-preserved c =
     let w = c.loop-i.invariant in
-    let h = c.loop-i-test.true in
-    elim c.if-t-ne0.branch [
-      | then-t-ne0+else-i-eq0+else-states-t+else-seen-t d ↦
-          rw d.seen-is (marked w h d.if-t-ne0.true d.if-i-eq0.false d.if-states-t.false c.requires d.if-seen-t.false)
-      | else-t-ne0 d ↦ rw d.seen-is (none-signed w h d.if-t-ne0.false)
-    ]
+    marked w c.loop-i-test.true c.if-t-eq0.false c.if-i-eq0.false c.if-states-t.false c.requires c.if-seen-t.false
 
-pub returns : goal.returns
-returns c = done c.loop-i.invariant c.loop-i-test.false
+pub returns-clause-lowest : goal.returns-clause-lowest
+returns-clause-lowest c = done c.loop-i.invariant (search rules)

@@ -1,8 +1,4 @@
-use mathlib.Core.Path.{◌≡◌}
-use mathlib.Core.Bool.{Bool, false}
-use mathlib.Core.List.{List}
-use Prim.Native.Nat.{ℕ, ◌-◌, ◌<◌}
-use lib.ListN.{length, get_or, take}
+use Rattle.std.proofs.Common.{◌≡◌, Bool, false, List, ℕ, ◌<◌, length, get_or, take}
 use Rattle.tables.specs.Lists.{among}
 use Rattle.tables.specs.Signing.{good_target}
 use Rattle.tables.specs.Laws.Lowest.{Walk}
@@ -15,7 +11,4 @@ pub record Passing (states : ℕ) (sgoto : List ℕ) (seen : List Bool) (i : ℕ
   pub marks : (t : ℕ) → 0 < t → get_or seen t false ≡ among t (take i sgoto)
 
 abbrev pub invariant-loop-i : goal.invariant-loop-i
-invariant-loop-i l = Passing l.states l.sgoto l.seen l.i
-
-abbrev pub decreases-loop-i : goal.decreases-loop-i
-decreases-loop-i l = length l.sgoto - l.i
+invariant-loop-i l = Passing l.states l.targets l.seen l.i

@@ -1,45 +1,17 @@
-use mathlib.Core.Path.{◌≡◌, sym, ap, ◌∙◌}
-use mathlib.Core.List.{[]}
-use Rattle.tables.specs.Said.{OK}
-use Rattle.tables.specs.Grammar.{grammar}
-use Rattle.tables.specs.Judgement.{said_of, judgement}
-use Rattle.tables.specs.Laws.Size.{GrammarFits, grammar_fits_lem}
-use Rattle.tables.specs.Laws.Judgement.{WellFormed, ok-means}
-use Rattle.machine.specs.Reads.{plain_reads}
-use Rattle.machine.specs.Outcome.{unchanged, judged_then, plain_parse}
-use Rattle.machine.specs.Laws.Outcome.{job-limit, told, parse-left}
-use Rattle.machine.specs.Laws.Refused.{refused-said}
+use Rattle.std.proofs.Common.{sym, ◌∙◌, arith}
+use Rattle.tables.specs.Laws.Size.{grammar_fits_lem}
+use Rattle.tables.specs.Laws.Judgement.{ok-means}
+use Rattle.machine.specs.Laws.Ruled.{filled-ruled}
+use Rattle.machine.specs.Laws.Outcome.{job-limit}
 use Rattle.machine.proofs.plain.plain_parse.Goals as goal
 
-pub returns-in_default : goal.returns-in_default
-unfolding plain_parse
-returns-in_default c =
-    rw (
-      sym c.job_fits.ensures ∙ c.if-job_fits.true,
-      ← c.judge-j.ensures,
-    )
-    (refused-said c.judge-j.result _ _ _ c.in_default.not-Good)
+pub invariant_of-reads : goal.invariant_of-reads
+invariant_of-reads c = record { ruled = filled-ruled (ok-means _ _ _ _ _ _ _ _ (sym c.in_ok-judge.ensures)) }
 
-pub run-r-requires : goal.run-r-requires
-run-r-requires c = job-limit _ _ (sym c.job_fits.ensures ∙ c.if-job_fits.true)
+pub invariant_of-task : goal.invariant_of-task
+invariant_of-task c =
+    let f = grammar_fits_lem _ _ _ _ (ok-means _ _ _ _ _ _ _ _ (sym c.in_ok-judge.ensures)).all.grammar in
+    record { lefts = omega (arith, f.lefts); lengths = omega (arith, f.lengths); ruled = omega arith }
 
-pub returns-in-Good : goal.returns-in-Good
-unfolding plain_parse judged_then grammar
-returns-in-Good c =
-    let a = c.args in
-    let o : judgement a.z a.states a.left.now a.lens.now a.rights.now a.table.now a.srule.now a.sgoto.now ≡ OK [] =
-    sym c.judge-j.ensures ∙ ap said_of c.in-Good.is in
-    let w : WellFormed a.z a.states a.left.now a.lens.now a.rights.now a.table.now a.srule.now a.sgoto.now = ok-means _ _ _ _ _ _ _ _ o in
-    let f : GrammarFits a.z a.left.now a.lens.now a.rights.now = grammar_fits_lem _ _ _ _ w.all.grammar in
-    rw (
-      sym c.job_fits.ensures ∙ c.if-job_fits.true,
-      o,
-      c.clear_u32.ensures,
-      c.clear_u32-then-job_fits.ensures,
-    )
-    (parse-left (told a.z a.left.now a.lens.now a.rights.now f.total) (plain_reads a.z a.table.now a.srule.now a.sgoto.now) a.tokens.now a.limit
-    a.stack.now a.list.now c.run-r.ensures)
-
-pub returns-else-job_fits : goal.returns-else-job_fits
-unfolding plain_parse unchanged
-returns-else-job_fits c = rw (sym c.job_fits.ensures ∙ c.if-job_fits.false)
+pub run_and_clear-requires : goal.run_and_clear-requires
+run_and_clear-requires c = job-limit _ _ (sym c.job_fits.ensures ∙ c.if-not-job_fits.false)

@@ -1,28 +1,45 @@
-use mathlib.Core.Path.{ap, sym, ◌∙◌}
-use borrow.Author.Tests.{eqb-true}
+use Rattle.std.proofs.lemmas.Result.{err_from_is_err_and}
+use Rattle.std.proofs.Common.{sym, ap, ◌∙◌, arith}
 use Rattle.tables.specs.Said.{Said}
 use Rattle.packing.specs.Laws.Packing.{ready, sized, refused-size, refused-judged, accepted}
+use Rattle.packing.specs.Laws.Ready.{tame, tame-rules, fuel-low}
 use Rattle.packing.specs.Written.{bench}
+use Rattle.packing.specs.Job.{job_of}
+use Rattle.packing.specs.Packed.{bound}
 use Rattle.packing.proofs.pack.pack.Goals as goal
 
-pub pack_judged-requires : goal.pack_judged-requires
-pack_judged-requires c =
-    let a = c.args in (
-      ready a.z a.states a.left.now a.lens.now a.rights.now a.table.now a.srule.now a.sgoto.now (ap (λ (q : Said). q.number) (sym c.judge-j.ensures) ∙ eqb-true _ 0 (sym c.is_good.ensures ∙ c.if-is_good.true)),
-      sized a.states (bench a.base.now a.check.now a.marks.now a.place.now) (sym c.arrays_fit.ensures ∙ c.if-arrays_fit.true),
-    )
-
-pub returns-then-is_good : goal.returns-then-is_good
-returns-then-is_good c =
+pub returns-then-not-arrays_fit : goal.returns-then-not-arrays_fit
+returns-then-not-arrays_fit c =
     let a = c.args in
-    accepted a.z a.states a.left.now a.lens.now a.rights.now a.table.now a.srule.now a.sgoto.now (bench a.base.now a.check.now a.marks.now a.place.now) (sym c.arrays_fit.ensures ∙ c.if-arrays_fit.true) _ _ _ c.judge-j.ensures (sym c.is_good.ensures ∙ c.if-is_good.true) c.pack_judged.ensures
+    refused-size a.grammar.sizes a.table.states _ _ _ _ _ _ (bench a.base.now a.check.now a.marks.now a.place.now) (sym c.arrays_fit.ensures ∙ c.if-not-arrays_fit.true)
 
-pub returns-else-is_good : goal.returns-else-is_good
-returns-else-is_good c =
+pub returns-in_err-judge : goal.returns-in_err-judge
+returns-in_err-judge c =
     let a = c.args in
-    refused-judged a.z a.states a.left.now a.lens.now a.rights.now a.table.now a.srule.now a.sgoto.now (bench a.base.now a.check.now a.marks.now a.place.now) (sym c.arrays_fit.ensures ∙ c.if-arrays_fit.true) _ c.judge-j.ensures (sym c.is_good.ensures ∙ c.if-is_good.false)
+    let p = err_from_is_err_and c.from_residual.result c.from_residual.ensures.1 in
+    rw (p.1, p.2)
+    (refused-judged a.grammar.sizes a.table.states _ _ _ _ _ _ (bench a.base.now a.check.now a.marks.now a.place.now) (sym c.arrays_fit.ensures ∙ c.if-not-arrays_fit.false) _ c.in_err-judge.ensures)
 
-pub returns-else-arrays_fit : goal.returns-else-arrays_fit
-returns-else-arrays_fit c =
+pub overflow_mul-tries-3 : goal.overflow_mul-tries-3
+overflow_mul-tries-3 c =
+    let f = fuel-low _ _ _ _ _ (ready c.args.grammar.sizes c.args.table.states _ _ _ _ _ _ (sym (ap (λ (q : Said). q.number) c.in_ok-judge.ensures))) in
+    record { fits = omega (arith, f) }
+
+pub overflow_add-tries-2 : goal.overflow_add-tries-2
+overflow_add-tries-2 c =
+    let f = fuel-low _ _ _ _ _ (ready c.args.grammar.sizes c.args.table.states _ _ _ _ _ _ (sym (ap (λ (q : Said). q.number) c.in_ok-judge.ensures))) in
+    record { fits = omega (arith, f) }
+
+pub invariant_of-job : goal.invariant_of-job
+invariant_of-job c =
+    let r = ready c.args.grammar.sizes c.args.table.states _ _ _ _ _ _ (sym (ap (λ (q : Said). q.number) c.in_ok-judge.ensures)) in
+    record { tame = tame _ _ _ _ _ r; rules = tame-rules _ _ _ _ _ r; most = (sized _ (bench c.args.base.now c.args.check.now c.args.marks.now c.args.place.now) (sym c.arrays_fit.ensures ∙ c.if-not-arrays_fit.false)).most; few = fuel-low _ _ _ _ _ r }
+
+pub pack_judged-requires-clause-sized : goal.pack_judged-requires-clause-sized
+pack_judged-requires-clause-sized c = let a = c.args in sized a.table.states (bench a.base.now a.check.now a.marks.now a.place.now) (sym c.arrays_fit.ensures ∙ c.if-not-arrays_fit.false)
+
+pub returns : goal.returns
+unfolding job_of bound
+returns c =
     let a = c.args in
-    refused-size a.z a.states a.left.now a.lens.now a.rights.now a.table.now a.srule.now a.sgoto.now (bench a.base.now a.check.now a.marks.now a.place.now) (sym c.arrays_fit.ensures ∙ c.if-arrays_fit.false)
+    accepted a.grammar.sizes a.table.states _ _ _ _ _ _ (bench a.base.now a.check.now a.marks.now a.place.now) (sym c.arrays_fit.ensures ∙ c.if-not-arrays_fit.false) _ _ c.in_ok-judge.ensures c.pack_judged.ensures

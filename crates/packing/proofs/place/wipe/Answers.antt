@@ -1,4 +1,4 @@
-use mathlib.Core.Path.{◌∙◌}
+use Rattle.std.proofs.Common.{◌∙◌}
 use Rattle.number.specs.Laws.Words.{clear-all}
 use Rattle.packing.specs.Laws.Whole.{wiped-is}
 use Rattle.packing.proofs.place.wipe.Goals as goal

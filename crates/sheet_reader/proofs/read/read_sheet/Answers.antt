@@ -1,10 +1,12 @@
-use Rattle.sheets.specs.Outcome.{sheet_read}
+use Rattle.std.proofs.Common.{sym, ◌∙◌}
+use Rattle.sheets.specs.Laws.Reading.{rules_room, targets_room, zeros-front}
 use Rattle.sheet_reader.proofs.read.read_sheet.Goals as goal
 
-pub returns-then-signing_fits : goal.returns-then-signing_fits
-unfolding sheet_read
-returns-then-signing_fits c = rw (← c.signing_fits.ensures, c.if-signing_fits.true) c.read_by.ensures
+pub slice_bounds-read_by-end : goal.slice_bounds-read_by-end
+slice_bounds-read_by-end c = sym (zeros-front 1024 _ (rules_room _ _ _ _ (sym c.signing_fits.ensures ∙ c.if-not-signing_fits.false)))
 
-pub returns-else-signing_fits : goal.returns-else-signing_fits
-unfolding sheet_read
-returns-else-signing_fits c = rw (← c.signing_fits.ensures, c.if-signing_fits.false)
+pub slice_bounds-read_by-end-2 : goal.slice_bounds-read_by-end-2
+slice_bounds-read_by-end-2 c = sym (zeros-front 512 _ (targets_room _ _ _ _ (sym c.signing_fits.ensures ∙ c.if-not-signing_fits.false)))
+
+pub read_by-requires-clause-lengths : goal.read_by-requires-clause-lengths
+read_by-requires-clause-lengths c = (zeros-front 1024 _ (rules_room _ _ _ _ (sym c.signing_fits.ensures ∙ c.if-not-signing_fits.false)), zeros-front 512 _ (targets_room _ _ _ _ (sym c.signing_fits.ensures ∙ c.if-not-signing_fits.false)))

@@ -1,32 +1,29 @@
-use mathlib.Core.Path.{sym, ap, ◌∙◌}
-use mathlib.Core.Logic.{◌≢◌}
-use native.Mathlib.Omega.{arith}
-use Rattle.tables.specs.declared.Judged.{Judged}
-use Rattle.tables.specs.declared.Judged.TheVariants.{Good, Size, Grammar, Entry, State, Nonterminal}
-use Rattle.tables.specs.Said.{Said}
-use Rattle.tables.specs.Judgement.{said_of}
-use Rattle.soundness.specs.Laws.Outcome.{checked_refused}
-use Rattle.soundness.specs.Laws.Answer.{good, told-checked}
-use Rattle.std.proofs.Common.{◌≡◌, refl}
+use Rattle.std.proofs.Common.{◌≡◌, sym, ap, ◌∙◌, Ok, Err}
+use Rattle.std.specs.Prelude.{Result}
+use Rattle.std.specs.Result.{IsErrAnd}
+use Rattle.tables.specs.declared.Refusal.{Refusal}
+use Rattle.tables.specs.Judgement as tables
+use Rattle.soundness.specs.declared.CheckRefusal.{CheckRefusal}
+use Rattle.soundness.specs.declared.CheckRefusal.TheVariants.{Judged}
+use Rattle.soundness.specs.Answer.{said_of, refused}
+use Rattle.soundness.specs.Laws.Outcome.{said-back, good-said}
 use Rattle.soundness.proofs.verdict.check.Goals as goal
 
--- a judgement that is not OK has a number from 1 on
-not_good : (j : Judged) → (j ≡ Good → ⊥) → (said_of j).number ≢ 0
-not_good Good k e = absurd (k refl)
-not_good Size k e = omega arith
-not_good (Grammar r) k e = omega arith
-not_good (Entry i) k e = omega arith
-not_good (State s) k e = omega arith
-not_good (Nonterminal x) k e = omega arith
+-- a refusal of the judgement is said as it is
+said-judged : (e : Refusal) (r : Result (Unit {0}) CheckRefusal) → IsErrAnd r (λ x. x ≡ Judged e) → said_of r ≡ tables.refused e
+said-judged e (Ok u) h = absurd h
+said-judged e (Err x) h = ap refused h
 
-pub returns-in_default : goal.returns-in_default
-returns-in_default c =
+pub returns-in_err-judge : goal.returns-in_err-judge
+returns-in_err-judge c =
     let a = c.args in
-    c.judge-j.ensures
-    ∙ sym (checked_refused a.z a.states a.left.now a.lens.now a.rights.now a.table.now a.srule.now a.sgoto.now (λ e. not_good c.judge-j.result c.in_default.not-Good (ap (λ (s : Said). s.number) c.judge-j.ensures ∙ e)))
-
-pub verdict-requires : goal.verdict-requires
-verdict-requires c = let a = c.args in good a.z a.states a.left.now a.lens.now a.rights.now a.table.now a.srule.now a.sgoto.now (sym c.judge-j.ensures ∙ ap said_of c.in-Good.is)
+    said-judged c.in_err-judge.field-0.0 _ c.from_residual.ensures.1
+    ∙ sym (said-back a.grammar.sizes a.table.states a.grammar.left.now a.grammar.lens.now a.grammar.rights.now a.table.entries.now a.signing.rules.now a.signing.targets.now
+    c.in_err-judge.field-0.0 (sym c.judge.ensures ∙ ap tables.said_of c.in_err-judge.was))
 
 pub returns : goal.returns
-returns c = let a = c.args in told-checked a.z a.states a.left.now a.lens.now a.rights.now a.table.now a.srule.now a.sgoto.now (sym c.judge-j.ensures ∙ ap said_of c.in-Good.is) c.verdict.ensures
+returns c =
+    let a = c.args in
+    c.verdict.ensures
+    ∙ sym (good-said a.grammar.sizes a.table.states a.grammar.left.now a.grammar.lens.now a.grammar.rights.now a.table.entries.now a.signing.rules.now a.signing.targets.now
+    (sym c.judge.ensures ∙ ap tables.said_of c.in_ok-judge.was))

@@ -1,15 +1,20 @@
-use native.Mathlib.Omega.{arith}
-use Rattle.sheets.specs.Laws.Emit.{then}
+use Rattle.std.specs.Prelude.{refl}
+use Rattle.std.proofs.Common.{rules, arith}
+use Rattle.sheets.specs.Emit.{Emitted}
 use Rattle.texts.specs.Printed.{cells_key, cells_text}
+use Rattle.texts.specs.Laws.Pen.{then}
 use Rattle.texts.specs.Laws.Short.{line-room, line-place}
 use Rattle.texts.proofs.print.print_cells.Goals as goal
 
-pub put_line-cells-requires : goal.put_line-cells-requires
-put_line-cells-requires c = line-room cells_key _ (omega arith) (omega arith)
+pub line-requires : goal.line-requires
+line-requires c = line-room cells_key _ (omega arith) (omega arith)
 
-pub put_cells-requires : goal.put_cells-requires
-put_cells-requires c = line-place cells_key _ (omega arith) (omega arith) c.put_line-cells.ensures
+pub cells-requires : goal.cells-requires
+cells-requires c = line-place cells_key _ (omega arith) (omega arith) refl c.line.ensures
 
 pub returns : goal.returns
 unfolding cells_text
-returns c = then c.put_line-cells.ensures c.put_cells.ensures
+returns c =
+    let e : Emitted c.args.buffer.now 0 (cells_text c.args.base.now c.args.check.now c.args.count) c.cells.new.self.at c.cells.new.self.buffer.now =
+    (then c.line.ensures c.cells.ensures).put in
+    search rules

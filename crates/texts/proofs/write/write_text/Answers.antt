@@ -1,6 +1,5 @@
-use Prim.Native.Nat.{◌<◌, ◌≤◌}
-use native.Mathlib.Omega.{arith}
-use lib.ListN.{length}
+use Rattle.std.specs.Prelude.{◌<◌, ◌≤◌, length}
+use Rattle.std.proofs.Common.{arith}
 use Rattle.sheets.specs.Laws.Writing.{too_long, put_front}
 use Rattle.texts.proofs.write.write_text.Goals as goal
 

@@ -1,0 +1,7 @@
+use Rattle.std.specs.Prelude.{◌≡◌, ◌<◌, ℕ}
+use Rattle.packing.specs.Job.{blank}
+use Rattle.packing.specs.Lent.{row_of}
+use Rattle.packing.proofs.row.Row.is_empty.Given as goal
+
+abbrev pub invariant-loop-a : goal.invariant-loop-a
+invariant-loop-a l = (k : ℕ) → k < l.a → row_of l.self k ≡ blank

@@ -1,7 +1,0 @@
-use mathlib.Core.Path.{refl}
-use native.Mathlib.Omega.{arith}
-use Rattle.packing.specs.Laws.Search.{marked-none}
-use Rattle.packing.proofs.search.mark_used.Goals as goal
-
-pub loop-n-init : goal.loop-n-init
-loop-n-init c = (rw c.requires (marked-none _ _ 16384), omega arith, refl)

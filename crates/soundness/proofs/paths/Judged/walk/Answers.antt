@@ -1,0 +1,14 @@
+use Rattle.soundness.specs.Laws.Walk.{row-begin, row_more, row-end}
+use Rattle.soundness.specs.Laws.Judged.{judged-tabled}
+use Rattle.soundness.proofs.paths.Judged.walk.Goals as goal
+
+pub loop-x-init : goal.loop-x-init
+loop-x-init c = row-begin (judged-tabled c.args.self) c.requires.below c.requires.kept
+
+pub loop-x-preserved : goal.loop-x-preserved
+loop-x-preserved c =
+    let p = c.requires in
+    rw (c.join.ensures, c.edge.ensures) (row_more (judged-tabled c.args.self) p.below p.reached c.loop-x-test.true c.loop-x.invariant)
+
+pub returns : goal.returns
+returns c = row-end (judged-tabled c.args.self) c.requires.below c.loop-x-test.false c.loop-x.invariant
