@@ -1,3 +1,4 @@
+pub mod Copying
 pub mod Computed
 pub mod Handed
 pub mod Meaning

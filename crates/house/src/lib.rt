@@ -7,8 +7,10 @@ ghost use Rattle.house.specs.House.{house_left, house_lens, house_rights, house_
 ghost use Rattle.house.specs.Handed.{handed, arrays_fit, handed_out};
 
 mod arrays;
+mod copy;
 
 use crate::arrays::{LEFT, LENS, RIGHTS, TABLE};
+use crate::copy::copy;
 use tables::Refusal;
 
 // Each array is as long as what it is to hold.
@@ -28,10 +30,10 @@ fn store(left: &mut [u32], lens: &mut [u32], rights: &mut [u32], table: &mut [i3
     requires { arrays_fit left.old lens.old rights.old table.old ≡ true }
     ensures { (left.new ≡ house_left) × (lens.new ≡ house_lens) × (rights.new ≡ house_rights) × (table.new ≡ house_table) }
 {
-    left.copy_from_slice(&LEFT);
-    lens.copy_from_slice(&LENS);
-    rights.copy_from_slice(&RIGHTS);
-    table.copy_from_slice(&TABLE);
+    copy(&LEFT, left);
+    copy(&LENS, lens);
+    copy(&RIGHTS, rights);
+    copy(&TABLE, table);
 }
 
 // Hands the four arrays out where they are lent; SIZE where a length is another.

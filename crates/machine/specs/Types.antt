@@ -15,6 +15,10 @@ Answer = Result ℕ Stop
 abbrev pub Moved : Type 0
 Moved = ControlFlow Ran State
 
+-- what one move on a state gives: what the move made, or SIZE
+abbrev pub Stepped : Type 0
+Stepped = Result Moved Refusal
+
 -- what a parse says: its end, or a refusal under the numbers 1 to 4
 abbrev pub Parsed : Type 0
 Parsed = Result Ended Refusal

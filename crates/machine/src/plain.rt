@@ -34,7 +34,8 @@ pub fn plain_parse(
     let task = Task {
         grammar,
         tokens,
+        limit,
         reads,
     };
-    Ok(task.run_and_clear(limit, stack, list))
+    Ok(task.run_and_clear(stack, list))
 }

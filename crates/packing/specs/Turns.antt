@@ -1,5 +1,5 @@
 -- The arrays before placement, and what is known of a job once it has been judged.
-use Rattle.std.specs.Prelude.{◌≡◌, true, None, List, ℕ, ◌≤◌, length, replicate, ℤ, pos}
+use Rattle.std.specs.Prelude.{◌≡◌, true, None, List, ℕ, length, replicate, ℤ, pos}
 use Rattle.tables.specs.declared.Sizes.{Sizes}
 use Rattle.tables.specs.Size.{signing_fits}
 use Rattle.tables.specs.Entry.{lowest_entry}
@@ -12,9 +12,8 @@ unfoldable pub wiped : ℕ → Bench → Bench
 wiped empty A =
     bench (replicate (length A.bases) (pos 0)) (replicate (length A.checks) (pos empty)) (replicate (length A.marks) 0) (replicate (length A.places) 0)
 
--- the four arrays have W, W, W and L elements, and W is at most 65,536
+-- the four arrays have W, W, W and L elements
 pub record Sized (states : ℕ) (A : Bench) : Type 0 where
-  pub most : length A.bases ≤ 65536
   pub checks : length A.checks ≡ length A.bases
   pub marks : length A.marks ≡ length A.bases
   pub places : length A.places ≡ states

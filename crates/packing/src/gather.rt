@@ -10,11 +10,11 @@ use crate::row::Row;
 use arrayvec::ArrayVec;
 
 impl<'a> Row<'a> {
-    // Some column below n of the row shifts to t.
+    // Some column below n of the row shifts to t; columns with one state mostly stand together, so the nearest is asked first.
     fn seen_below(self, t: u32, n: u32) -> bool
         ensures { result ≡ seen (row_of self.entry) t n }
     {
-        for a in 0..n {
+        for a in (0..n).rev() {
             if self.at(a) == Written::Shift(t) {
                 return true;
             }
@@ -43,14 +43,13 @@ impl<'a> Bench<'a> {
         }
     }
 
-    // The cells that a row needs, counted from its base.
-    pub(crate) fn needs(&self, row: Row) -> ArrayVec<u32, 1024>
-        ensures { Gathered (no_cell_b (cells self.now)) (row_of row.entry) row.entry.job.sizes.symbols result.items }
+    // Gathers the cells that a row needs, counted from its base, in a list that is empty; it is lent, so that it is not copied.
+    pub(crate) fn gather(&self, row: Row, need: &mut ArrayVec<u32, 1024>)
+        requires { length need.old.items ≡ 0 }
+        ensures { Gathered (no_cell_b (cells self.now)) (row_of row.entry) row.entry.job.sizes.symbols need.new.items }
     {
-        let mut need = ArrayVec::new();
         for a in 0..row.job.sizes.symbols {
-            self.need_column(row, a, &mut need);
+            self.need_column(row, a, need);
         }
-        need
     }
 }

@@ -44,11 +44,11 @@ impl<'a> Bench<'a> {
         }
     }
 
-    // b is the base of a state below s.
+    // b is the base of a state below s; a base far out is mostly that of a late state, so the latest is asked first.
     fn is_used(&self, s: u32, kind: Kind, b: usize) -> bool
         ensures { result ≡ used_b (cells self.now) (as_kind kind) b s }
     {
-        for n in 0..s {
+        for n in (0..s).rev() {
             if self.has_base(n, kind, b) {
                 return true;
             }

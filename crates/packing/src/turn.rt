@@ -8,6 +8,7 @@ use crate::job::Job;
 use crate::row::Row;
 use crate::search::all_inside;
 use crate::{Kind, NoRoom, Plan};
+use arrayvec::ArrayVec;
 
 impl<'a> Bench<'a> {
     // Writes a row from the least base that is free for it, which becomes the base of its state.
@@ -15,7 +16,8 @@ impl<'a> Bench<'a> {
         ensures cells { kept result (cells self.new) ≡ row_by_b Plan.Search (asked row.entry.job) row.entry.job.cells row.entry.job.tries (as_kind row.entry.kind) row.entry.state (cells self.old) }
         ensures lent { SameLenders self.old self.new }
     {
-        let need = self.needs(row);
+        let mut need = ArrayVec::new();
+        self.gather(row, &mut need);
         let b = self.least_base(row, &need);
         if !all_inside(&need, b, row.job.cells) {
             return Err(NoRoom);

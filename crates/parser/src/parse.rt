@@ -43,7 +43,8 @@ pub fn parse(
     let task = Task {
         grammar,
         tokens,
+        limit,
         reads,
     };
-    Ok(task.run_and_clear(limit, stack, list))
+    Ok(task.run_and_clear(stack, list))
 }

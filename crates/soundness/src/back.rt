@@ -12,7 +12,7 @@ impl<'a> Paths<'a> {
         ensures { result ≡ entered_on self.entry set.now y t }
     {
         !number::at(set, t as usize, false)
-            || number::at(self.ways, t as usize, WayIn::Unreached) == WayIn::On(y)
+            || number::at(self.ways, t as usize, WayIn::Unreached).is_on(y)
     }
 
     // The lowest state of the set that is entered otherwise than on y.

@@ -6,7 +6,7 @@ ghost use Rattle.soundness.specs.Laws.Judged.{fault_at, verdict_of};
 
 use crate::CheckRefusal;
 use crate::paths::{Judged, Paths, Row};
-use crate::ways::is_unreached;
+use crate::ways::{WayIn, is_unreached};
 use judgement::judge::judge;
 use tables::{Grammar, Signing, Table};
 
@@ -32,7 +32,9 @@ impl<'a> Judged<'a> {
     fn verdict(self) -> Result<(), CheckRefusal>
         ensures { said_of result ≡ verdict_said (verdict_of self.entry) }
     {
-        let ways = self.find_ways();
+        // No heap: the ways stand in the frame.
+        let mut ways = [WayIn::Unreached; 1024];
+        self.find_ways(&mut ways);
         let paths = Paths {
             judged: self,
             ways: &ways,

@@ -1,9 +1,10 @@
 // The way into each state: the symbol on which all edges from reached states enter it, if it is one.
-ghost use Rattle.std.specs.Prelude.{◌≡◌, ◌<◌};
+ghost use Rattle.std.specs.Prelude.{◌≡◌, ◌<◌, replicate};
 ghost use Rattle.tables.specs.Lists.{lowest};
 ghost use Rattle.soundness.specs.Laws.Edges.{Reached};
 ghost use Rattle.soundness.specs.Laws.Ways.{way_of, joined_way, joined_to, Ways};
 ghost use Rattle.soundness.specs.Laws.Walk.{Walked, is_unreached, is_done, Entered};
+ghost use Rattle.soundness.specs.Laws.Back.{is_on};
 
 use crate::paths::Judged;
 
@@ -11,13 +12,23 @@ use crate::paths::Judged;
 #[derive(Clone, Copy, Debug, PartialEq, Eq)]
 pub(crate) enum WayIn {
     Unreached,
-    On(u32),
+    On(u16),
     Several,
 }
 
 impl WayIn {
+    // All edges enter the state on y.
+    pub(crate) fn is_on(self, y: u32) -> bool
+        ensures { result ≡ is_on y self }
+    {
+        match self {
+            WayIn::On(w) => u32::from(w) == y,
+            WayIn::Unreached | WayIn::Several => false,
+        }
+    }
+
     // The way, with an edge on x more.
-    fn joined(self, x: u32) -> WayIn
+    fn joined(self, x: u16) -> WayIn
         ensures { result ≡ joined_way self x }
     {
         match self {
@@ -28,13 +39,16 @@ impl WayIn {
     }
 }
 
-// An edge on x that leads to this state joins the way into it.
-fn join(ways: &mut [WayIn], x: u32, to: Option<u32>)
+// An edge on x that leads to this state joins the way into it; where all edges enter on x, as they mostly do, nothing is stored.
+#[tactic(auto, using(crate::specs::Laws::Ways::joined_same))]
+fn join(ways: &mut [WayIn], x: u16, to: Option<u32>)
     ensures { ways.new ≡ joined_to ways.old x to }
 {
     if let Some(t) = to {
         let way = number::at(ways, t as usize, WayIn::Unreached);
-        number::put(ways, t as usize, way.joined(x));
+        if way != WayIn::On(x) {
+            number::put(ways, t as usize, way.joined(x));
+        }
     }
 }
 
@@ -68,23 +82,22 @@ impl<'a> Judged<'a> {
         ensures { Walked self.entry.grammar.sizes self.entry.table.states self.entry.table.entries.now s ways.old ways.new }
     {
         for x in 1..self.grammar.sizes.symbols {
-            join(ways, x, self.edge(s, x));
+            join(ways, x as u16, self.edge(s, x));
         }
     }
 
     // The ways into all states, from the path of no edges on.
-    pub(crate) fn find_ways(self) -> [WayIn; 1024]
-        ensures { Entered self.entry.grammar.sizes self.entry.table.states self.entry.table.entries.now result }
+    pub(crate) fn find_ways(self, ways: &mut [WayIn; 1024])
+        requires { ways.old ≡ replicate 1024 WayIn.Unreached }
+        ensures { Entered self.entry.grammar.sizes self.entry.table.states self.entry.table.entries.now ways.new }
     {
-        // No heap: the ways, and which states have been walked, stand in the frame.
-        let mut ways = [WayIn::Unreached; 1024];
+        // No heap: which states have been walked stands in the frame.
         let mut walked = [false; 1024];
         ways[0] = WayIn::Several;
         // A walk may open more states, so there is no range to go over.
-        while let Some(s) = lowest_open(self.table.states, &ways, &walked) {
+        while let Some(s) = lowest_open(self.table.states, ways, &walked) {
             walked[s as usize] = true;
-            self.walk(&mut ways, s);
+            self.walk(ways, s);
         }
-        ways
     }
 }

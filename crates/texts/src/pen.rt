@@ -31,9 +31,12 @@ impl<'a> Pen<'a> {
         requires { Room self.old.at bytes.now }
         ensures { Puts self.old bytes.now self.new }
     {
+        let mut at = self.at;
         for b in bytes {
-            self.byte(*b);
+            put(self.buffer, at, *b);
+            at += 1;
         }
+        self.at = at;
     }
 
     // Puts the digits of n.

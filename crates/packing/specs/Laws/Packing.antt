@@ -1,5 +1,5 @@
 -- The parts of packing, put together. Assumes nothing.
-use Rattle.std.specs.Prelude.{◌≡◌, true, false, List, [], ℕ, eqb, ℤ, length, refl}
+use Rattle.std.specs.Prelude.{◌≡◌, true, false, List, [], ℕ, eqb, ℤ, length, refl, ◌≤◌}
 use Rattle.std.proofs.Common.{sym, ◌∙◌, eqb-true}
 use Rattle.std.proofs.Math.Option.{Option, none}
 use Rattle.tables.specs.declared.Sizes.{Sizes}
@@ -60,7 +60,12 @@ sized states A e =
     let p : (cells_fit A.bases A.checks ≡ true) × _ = and-true (cells_fit A.bases A.checks) e in
     let q : (eqb (length A.marks) (length A.bases) ≡ true) × _ = and-true (eqb (length A.marks) (length A.bases)) p.1 in
     let f = cells_fit_lem A.bases A.checks p.0 in
-    record { most = f.most; checks = f.same; marks = eqb-true _ _ q.0; places = eqb-true _ _ q.1 }
+    record { checks = f.same; marks = eqb-true _ _ q.0; places = eqb-true _ _ q.1 }
+
+-- cells that fit are at most 65,536
+pub cells-most : (states : ℕ) (A : Bench) → arrays_fit states A ≡ true → length A.bases ≤ 65536
+unfolding arrays_fit
+cells-most states A e = (cells_fit_lem A.bases A.checks (and-true (cells_fit A.bases A.checks) e).0).most
 
 -- ---- placement
 

@@ -1,7 +1,8 @@
 -- The way into each state, edge by edge. Assumes nothing.
 use Rattle.std.specs.Prelude.{◌≡◌, refl, ◌≢◌, ◌⊎◌, Bool, true, false, cond, List, ◌∷◌, ℕ, ◌<◌, ℤ, length, get_or, set, Option, Some, None, ◌==◌}
-use Rattle.std.proofs.Common.{sym, ap, ◌∙◌, subst, inr, arith, length-set, get_or-set_same, get_or-set_other, eqb-true}
+use Rattle.std.proofs.Common.{eq-eqb, sym, ap, ◌∙◌, subst, inr, arith, length-set, get_or-set_same, get_or-set_other, eqb-true}
 use Rattle.std.proofs.lemmas.Bool.{eqb-false}
+use Rattle.std.proofs.lemmas.List.{set-get_or}
 use Rattle.std.proofs.Math.Decide.{ℕ_discrete}
 use Rattle.tables.specs.declared.Sizes.{Sizes}
 use Rattle.tables.specs.Entry.{goto_at}
@@ -28,6 +29,13 @@ joined_to ways x None = ways
 -- the edge of s on x, if there is one, joins the way into the state that it leads to
 abbrev pub joined_at : Sizes → List ℤ → ℕ → ℕ → List WayIn → List WayIn
 joined_at z table s x ways = joined_to ways x (goto_at z table s x)
+
+-- an edge on the symbol on which all edges enter its state changes nothing
+pub joined_same : (ways : List WayIn) (x t : ℕ) → way_of ways t ≡ On x → ways ≡ joined_to ways x (Some t)
+joined_same ways x t e = sym (ap (set ways t) same ∙ set-get_or ways t Unreached)
+  where
+    same : joined_way (way_of ways t) x ≡ way_of ways t
+    same = rw (e, eq-eqb x x refl) refl
 
 -- on x where the old way was none or on x, else several
 data Joined (v : WayIn) (x : ℕ) : WayIn → Type 0 where

@@ -11,7 +11,9 @@ invariant_of-reads c = record { ruled = filled-ruled (ok-means _ _ _ _ _ _ _ _ (
 pub invariant_of-task : goal.invariant_of-task
 invariant_of-task c =
     let f = grammar_fits_lem _ _ _ _ (ok-means _ _ _ _ _ _ _ _ (sym c.in_ok-judge.ensures)).all.grammar in
-    record { lefts = omega (arith, f.lefts); lengths = omega (arith, f.lengths); ruled = omega arith }
-
-pub run_and_clear-requires : goal.run_and_clear-requires
-run_and_clear-requires c = job-limit _ _ (sym c.job_fits.ensures ∙ c.if-not-job_fits.false)
+    record {
+      lefts = omega (arith, f.lefts);
+      lengths = omega (arith, f.lengths);
+      ruled = omega arith;
+      bounded = job-limit _ _ (sym c.job_fits.ensures ∙ c.if-not-job_fits.false);
+    }

@@ -1,7 +1,7 @@
 use Rattle.std.proofs.lemmas.Result.{err_from_is_err_and}
 use Rattle.std.proofs.Common.{sym, ap, ◌∙◌, arith}
 use Rattle.tables.specs.Said.{Said}
-use Rattle.packing.specs.Laws.Packing.{ready, sized, refused-size, refused-judged, accepted}
+use Rattle.packing.specs.Laws.Packing.{ready, sized, cells-most, refused-size, refused-judged, accepted}
 use Rattle.packing.specs.Laws.Ready.{tame, tame-rules, fuel-low}
 use Rattle.packing.specs.Written.{bench}
 use Rattle.packing.specs.Job.{job_of}
@@ -33,7 +33,7 @@ overflow_add-tries-2 c =
 pub invariant_of-job : goal.invariant_of-job
 invariant_of-job c =
     let r = ready c.args.grammar.sizes c.args.table.states _ _ _ _ _ _ (sym (ap (λ (q : Said). q.number) c.in_ok-judge.ensures)) in
-    record { tame = tame _ _ _ _ _ r; rules = tame-rules _ _ _ _ _ r; most = (sized _ (bench c.args.base.now c.args.check.now c.args.marks.now c.args.place.now) (sym c.arrays_fit.ensures ∙ c.if-not-arrays_fit.false)).most; few = fuel-low _ _ _ _ _ r }
+    record { tame = tame _ _ _ _ _ r; rules = tame-rules _ _ _ _ _ r; most = cells-most _ (bench c.args.base.now c.args.check.now c.args.marks.now c.args.place.now) (sym c.arrays_fit.ensures ∙ c.if-not-arrays_fit.false); few = fuel-low _ _ _ _ _ r }
 
 pub pack_judged-requires-clause-sized : goal.pack_judged-requires-clause-sized
 pack_judged-requires-clause-sized c = let a = c.args in sized a.table.states (bench a.base.now a.check.now a.marks.now a.place.now) (sym c.arrays_fit.ensures ∙ c.if-not-arrays_fit.false)

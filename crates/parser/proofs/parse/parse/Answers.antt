@@ -8,7 +8,9 @@ invariant_of-reads c = record { fit = packed-cells _ _ _ _ (sym c.packed_fits.en
 pub invariant_of-task : goal.invariant_of-task
 invariant_of-task c =
     let g = grammar-sizes _ _ _ _ (sym c.in_ok-judge_grammar.ensures) in
-    record { lefts = omega (arith, g.lefts); lengths = omega (arith, g.lengths); ruled = omega arith }
-
-pub run_and_clear-requires : goal.run_and_clear-requires
-run_and_clear-requires c = packed-limit _ _ _ _ (sym c.packed_fits.ensures ∙ c.if-not-packed_fits.false)
+    record {
+      lefts = omega (arith, g.lefts);
+      lengths = omega (arith, g.lengths);
+      ruled = omega arith;
+      bounded = packed-limit _ _ _ _ (sym c.packed_fits.ensures ∙ c.if-not-packed_fits.false);
+    }

@@ -1,14 +1,9 @@
-use Rattle.std.proofs.Common.{sym, ◌∙◌, arith}
-use Rattle.parser.specs.Laws.Step.{step_fits_lem}
+use Rattle.std.proofs.Common.{sym, ◌∙◌}
+use Rattle.parser.specs.Laws.Judged.{packed-cells, packed-limit}
 use Rattle.parser.proofs.step.step.Goals as goal
 
 pub invariant_of-reads : goal.invariant_of-reads
-invariant_of-reads c = record { fit = (step_fits_lem _ _ _ _ _ _ _ _ _ (sym c.step_fits.ensures ∙ c.if-not-step_fits.false)).cells }
+invariant_of-reads c = record { fit = packed-cells _ _ _ _ (sym c.packed_fits.ensures ∙ c.if-not-packed_fits.false) }
 
-pub invariant_of-task : goal.invariant_of-task
-invariant_of-task c =
-    let f = step_fits_lem _ _ _ _ _ _ _ _ _ (sym c.step_fits.ensures ∙ c.if-not-step_fits.false) in
-    record { lefts = f.lefts; lengths = f.lengths; ruled = omega arith }
-
-pub one_move-requires : goal.one_move-requires
-one_move-requires c = (step_fits_lem _ _ _ _ _ _ _ _ _ (sym c.step_fits.ensures ∙ c.if-not-step_fits.false)).ready c.if-s-limit.false
+pub invariant_of-task-clause-bounded : goal.invariant_of-task-clause-bounded
+invariant_of-task-clause-bounded c = packed-limit _ _ _ _ (sym c.packed_fits.ensures ∙ c.if-not-packed_fits.false)

@@ -9,7 +9,7 @@ pub loop-init : goal.loop-init
 loop-init g c = turn-begin _ _ _ _ _ _ _ c.if-stack-eq0.false
 
 pub one_move-requires : goal.one_move-requires
-one_move-requires g c = turn-ready _ _ _ _ _ _ _ c.loop.invariant c.loop-test.true c.requires
+one_move-requires g c = turn-ready _ _ _ _ _ _ _ c.loop.invariant c.loop-test.true c.args.self.now.bounded
 
 pub returns-in-Break : goal.returns-in-Break
 returns-in-Break g c = turn-halt _ _ _ _ _ _ _ c.loop.invariant c.loop-test.true (rw c.in-Break.is at c.one_move.ensures)

@@ -4,7 +4,7 @@ use Rattle.soundness.specs.Laws.Judged.{judged-tabled}
 use Rattle.soundness.proofs.paths.Judged.find_ways.Goals as goal
 
 pub loop-s-init : goal.loop-s-init
-loop-s-init c = walking-begin (judged-tabled c.args.self)
+loop-s-init c = rw c.requires (walking-begin (judged-tabled c.args.self))
 
 pub bounds-walked-s : goal.bounds-walked-s
 bounds-walked-s c =

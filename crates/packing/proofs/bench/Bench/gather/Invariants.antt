@@ -2,7 +2,7 @@ use Rattle.std.specs.Prelude.{◌≤◌, ◌*◌, length}
 use Rattle.packing.specs.Bench.{no_cell_b}
 use Rattle.packing.specs.Gathered.{Gathered}
 use Rattle.packing.specs.Lent.{cells, row_of}
-use Rattle.packing.proofs.bench.Bench.needs.Given as goal
+use Rattle.packing.proofs.bench.Bench.gather.Given as goal
 
 abbrev pub invariant-loop-a : goal.invariant-loop-a
 invariant-loop-a l =
