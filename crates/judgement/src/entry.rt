@@ -1,7 +1,7 @@
 // ENTRY: the lowest bad index of the table.
 ghost use Rattle.std.specs.Prelude.{◌≡◌, true};
-ghost use Rattle.tables.specs.Size.{numbers_fit};
-ghost use Rattle.tables.specs.Entry.{good_action, good_goto, good_signed, lowest_entry};
+ghost use Rattle.tables.specs.Size.{numbers_fit, table_fits};
+ghost use Rattle.tables.specs.Entry.{good_action, good_goto, lowest_entry};
 
 use number::Signed;
 use tables::{Sizes, Table};
@@ -27,32 +27,25 @@ fn goto_good(z: Sizes, states: u32, a: u32, e: Signed) -> bool
     }
 }
 
-// e may stand in column a.
-#[tactic(auto, unfolding(tables::specs::Entry::good_signed))]
-fn entry_good(z: Sizes, states: u32, a: u32, e: Signed) -> bool
-    ensures { result ≡ good_signed z states a e }
-{
-    if a < z.terminals {
-        action_good(z, states, a, e)
-    } else {
-        goto_good(z, states, a, e)
-    }
-}
-
-// The lowest bad index of the table, row by row.
+// The lowest bad index of the table, row by row. Terminals and nonterminals have a loop each: one for both asks at each entry which kind its column is of.
 pub(crate) fn lowest_entry(z: Sizes, table: Table) -> Option<usize>
-    requires { numbers_fit z ≡ true }
+    requires numbers { numbers_fit z ≡ true }
+    requires table { table_fits z table.states table.entries.now ≡ true }
     ensures { result ≡ lowest_entry z table.entry.states table.entry.entries.now }
 {
-    // The column is counted beside the index: to find it from the index is a division for each entry.
-    let mut a: u32 = 0;
-    for (i, e) in table.entries.iter().enumerate() {
-        if !entry_good(z, table.states, a, number::sign(*e)) {
-            return Some(i);
+    for s in 0..table.states {
+        let row = s as usize * z.symbols as usize;
+        for a in 0..z.terminals {
+            let i = row + a as usize;
+            if !action_good(z, table.states, a, number::at_i32(table.entries, i)) {
+                return Some(i);
+            }
         }
-        a += 1;
-        if a == z.symbols {
-            a = 0;
+        for a in z.terminals..z.symbols {
+            let i = row + a as usize;
+            if !goto_good(z, table.states, a, number::at_i32(table.entries, i)) {
+                return Some(i);
+            }
         }
     }
     None

@@ -105,15 +105,22 @@ impl<'a> Bench<'a> {
         }
     }
 
-    // The cell that holds the base of state s of one kind: its own, or the attached one.
-    pub(crate) fn base_cell(&self, s: u32, kind: Kind) -> usize
-        ensures { result ≡ cell_of (as_kind kind) self.now.place.now s }
+    // The cell that holds the base of state s of one kind: its own, or the attached one. It takes the places alone, which a search has at hand.
+    pub(crate) fn cell_of(place: &[u32], s: u32, kind: Kind) -> usize
+        ensures { result ≡ cell_of (as_kind kind) place.now s }
     {
-        let x = self.place_of(s) as usize;
+        let x = number::at(place, s as usize, 0) as usize;
         match kind {
             Kind::Action => x,
             Kind::Goto => x + 1,
         }
+    }
+
+    // The same cell, of this bench.
+    fn base_cell(&self, s: u32, kind: Kind) -> usize
+        ensures { result ≡ cell_of (as_kind kind) self.now.place.now s }
+    {
+        Bench::cell_of(self.place, s, kind)
     }
 
     // The base of state s of one kind, or 0.

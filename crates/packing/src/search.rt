@@ -1,8 +1,8 @@
 // The searches: for the least base of a row, and for the least cell of a state.
-ghost use Rattle.std.specs.Prelude.{◌≡◌, false, ◌+◌, ◌≤◌, replicate};
+ghost use Rattle.std.specs.Prelude.{◌≡◌, false, ◌+◌, ◌≤◌, get_or, pos, replicate};
 ghost use Rattle.std.specs.List.{list_all};
 ghost use Rattle.cells.specs.Read.{is_number};
-ghost use Rattle.packing.specs.Bench.{base_of_b, used_b, free2_b, first_b, inside};
+ghost use Rattle.packing.specs.Bench.{cell_of, used_b, free2_b, first_b, inside};
 ghost use Rattle.packing.specs.Gathered.{free_in, Marked, test_b};
 ghost use Rattle.packing.specs.Lent.{as_kind, cells};
 
@@ -10,13 +10,19 @@ use crate::Kind;
 use crate::bench::Bench;
 use crate::job::Job;
 use crate::row::Row;
-use number::Signed;
 
 // Cell c is free; those at W or above are.
 fn is_free(marks: &[u32], c: usize) -> bool
     ensures { result ≡ free_in marks.now c }
 {
     number::at(marks, c, 0) == 0
+}
+
+// b is the base of state s.
+fn has_base(base: &[i32], place: &[u32], s: u32, kind: Kind, b: u32) -> bool
+    ensures { result ≡ is_number (get_or base.now (cell_of (as_kind kind) place.now s) (pos 0)) b }
+{
+    number::holds_i32(base, Bench::cell_of(place, s, kind), b)
 }
 
 impl<'a> Bench<'a> {
@@ -34,22 +40,13 @@ impl<'a> Bench<'a> {
         job.tries + 1
     }
 
-    // b is the base of state s. It may be above a u32, so what stands in the cell is compared with it and not the other way round.
-    fn has_base(&self, s: u32, kind: Kind, b: usize) -> bool
-        ensures { result ≡ is_number (base_of_b (as_kind kind) (cells self.now) s) b }
-    {
-        match number::at_i32(self.base, self.base_cell(s, kind)) {
-            Signed::Plus(n) => n as usize == b,
-            Signed::Minus(_) => false,
-        }
-    }
-
-    // b is the base of a state below s; a base far out is mostly that of a late state, so the latest is asked first.
-    fn is_used(&self, s: u32, kind: Kind, b: usize) -> bool
+    // b is the base of a state below s; a base far out is mostly that of a late state, so the latest is asked first. The two arrays are named before the loop, which else asks the bench for them at each state.
+    fn is_used(&self, s: u32, kind: Kind, b: u32) -> bool
         ensures { result ≡ used_b (cells self.now) (as_kind kind) b s }
     {
+        let (base, place) = (&*self.base, &*self.place);
         for n in (0..s).rev() {
-            if self.has_base(n, kind, b) {
+            if has_base(base, place, n, kind, b) {
                 return true;
             }
         }
@@ -71,14 +68,14 @@ impl<'a> Bench<'a> {
 
     // b is the base of a state below s, as `used` says where it reaches so far.
     fn is_base(&self, used: &[bool], s: u32, kind: Kind, b: usize) -> bool
-        requires base { 1 ≤ b }
+        requires base { (1 ≤ b) × (b ≤ 3000000) }
         requires used { Marked (cells self.now) (as_kind kind) s used.now }
         ensures { result ≡ used_b (cells self.now) (as_kind kind) b s }
     {
         if b < used.len() {
             used[b]
         } else {
-            self.is_used(s, kind, b)
+            self.is_used(s, kind, b as u32)
         }
     }
 

@@ -12,6 +12,8 @@ use arrayvec::ArrayVec;
 
 impl<'a> Bench<'a> {
     // Writes a row from the least base that is free for it, which becomes the base of its state.
+    // It stays a call: if it is put into `row`, the loop of the search has fewer registers and its jumps lie worse, and it takes up to 1.6 times as long.
+    #[inline(never)]
     fn place_row(&mut self, row: Row) -> Result<(), NoRoom>
         ensures cells { kept result (cells self.new) ≡ row_by_b Plan.Search (asked row.entry.job) row.entry.job.cells row.entry.job.tries (as_kind row.entry.kind) row.entry.state (cells self.old) }
         ensures lent { SameLenders self.old self.new }

@@ -26,20 +26,20 @@ impl<'a> Pen<'a> {
         self.at += 1;
     }
 
-    // Puts bytes one after the other.
+    // Puts bytes one after the other. The loop has buffer and place for itself: in the pen, both would be loaded anew after each byte.
     pub(crate) fn bytes(&mut self, bytes: &[u8])
         requires { Room self.old.at bytes.now }
         ensures { Puts self.old bytes.now self.new }
     {
-        let mut at = self.at;
+        let (buffer, mut at) = (&mut *self.buffer, self.at);
         for b in bytes {
-            put(self.buffer, at, *b);
+            put(buffer, at, *b);
             at += 1;
         }
         self.at = at;
     }
 
-    // Puts the digits of n.
+    // Puts the digits of n, the last two at once: each call stores the place, and the next byte waits until it is loaded again.
     #[tactic(auto, using(crate::specs::Laws::Pen::digits_steps))]
     pub(crate) fn number(&mut self, n: u32)
         requires { Room self.old.at (decimal n) }
@@ -48,8 +48,12 @@ impl<'a> Pen<'a> {
         if n < 10 {
             return self.byte(b'0' + n as u8);
         }
-        self.number(n / 10);
-        self.byte(b'0' + (n % 10) as u8);
+        let tens = n / 10;
+        if tens < 10 {
+            return self.bytes(&[b'0' + tens as u8, b'0' + (n % 10) as u8]);
+        }
+        self.number(tens / 10);
+        self.bytes(&[b'0' + (tens % 10) as u8, b'0' + (n % 10) as u8]);
     }
 
     // Puts the line of a key with the number n.

@@ -1,69 +1,92 @@
-use Rattle.std.proofs.Math.Nat.{zero-mod, suc-mod, mod_self}
-use Rattle.std.proofs.Common.{rules, ◌≡◌, Bool, true, false, List, ℕ, ◌+◌, ◌%◌, ◌≤◌, ◌<◌, ℤ, pos, length, get_or, sym, ◌∙◌, mod-eq_of_lt, add-one, arith}
+use Rattle.std.proofs.Math.Nat.{mul-add-mod_self_right, mod-eq_of_lt, mul-le-mul_right}
+use Rattle.std.proofs.Common.{◌≡◌, Bool, true, false, List, ℕ, suc, ◌+◌, ◌*◌, ◌%◌, ◌≤◌, ◌<◌, ℤ, pos, length, get_or, sym, ◌∙◌, lt-ltb, le-ltb, arith}
 use Rattle.number.specs.Number.{sign_of}
 use Rattle.number.specs.declared.Signed.{Signed}
 use Rattle.tables.specs.declared.Sizes.{Sizes}
 use Rattle.std.specs.Prelude.{Some, None}
-use Rattle.tables.specs.Entry.{good_signed, good_entry, lowest_entry, good_at}
+use Rattle.tables.specs.Entry.{good_action, good_goto, good_signed, good_entry, lowest_entry, good_at}
 use Rattle.tables.specs.Laws.Lowest.{walk-begin, walk-on, walk-bad, walk_end}
-use Rattle.tables.specs.Laws.Size.{NumbersFit, numbers_fit_lem}
+use Rattle.tables.specs.Laws.Size.{numbers_fit_lem, table_fits_lem}
 use Rattle.judgement.proofs.entry.lowest_entry.Invariants.{Passing}
 use Rattle.judgement.proofs.entry.lowest_entry.Goals as goal
-use Rattle.judgement.proofs.entry.lowest_entry.Goals.{then-a-z, else-a-z}
 
-module _ {z : Sizes} {states : ℕ} {table : List ℤ} where
-  begin : 0 < z.symbols → Passing z states table 0 0
-  begin h = record { column = zero-mod z.symbols; inside = h; walk = walk-begin }
+module _ (z : Sizes) (states : ℕ) (table : List ℤ) (s a : ℕ) (h : a < z.symbols) where
+  column : (s * z.symbols + a) % z.symbols ≡ a
+  column = mul-add-mod_self_right s z.symbols a ∙ mod-eq_of_lt h
 
-  module _ {i a : ℕ} (inv : Passing z states table i a) where
-    -- what the code's test of the entry says
-    told : (e : Signed) (b : Bool) → e ≡ sign_of (get_or table i (pos 0)) → b ≡ good_signed z states a e → good_at z states table i ≡ b
-    unfolding good_entry
-    told e b p q = rw inv.column (sym (rw p at q))
+  -- what the code's tests of the entry of state s and column a say
+  module _ {e : Signed} {b : Bool} (p : e ≡ sign_of (get_or table (s * z.symbols + a) (pos 0))) where
+    action-told : a < z.terminals → b ≡ good_action z states a e → good_at z states table (s * z.symbols + a) ≡ b
+    unfolding good_entry good_signed
+    action-told l q = rw (column, lt-ltb _ _ l) (sym (rw p at q))
 
-    -- the next index is in the next column, or in column 0
-    next : (a' : ℕ) → i < length table → (i + 1) % z.symbols ≡ a' → a' < z.symbols → good_at z states table i ≡ true
-        → Passing z states table (i + 1) a'
-    next a' h c l g = record { column = c; inside = l; walk = walk-on inv.walk h g }
+    goto-told : z.terminals ≤ a → b ≡ good_goto z states a e → good_at z states table (s * z.symbols + a) ≡ b
+    unfolding good_entry good_signed
+    goto-told l q = rw (column, le-ltb _ _ l) (sym (rw p at q))
 
-    after : (i + 1) % z.symbols ≡ (a + 1) % z.symbols
-    after = rw (add-one i, suc-mod i z.symbols, inv.column, add-one a)
+module _ (z : Sizes) (states : ℕ) (table : List ℤ) where
+  begin : Passing z states table 0 0
+  begin = let e : 0 ≡ 0 * z.symbols + 0 = omega arith in record { walk = rw e at (walk-begin {good = good_at z states table} {n = length table}) }
 
-    wraps : a + 1 ≡ z.symbols → (i + 1) % z.symbols ≡ 0
-    wraps e = after ∙ rw e (mod_self z.symbols)
+module _ {z : Sizes} {states : ℕ} {table : List ℤ} {s a : ℕ} where
+  module _ (size : length table ≡ states * z.symbols) (h : s < states) (k : a < z.symbols) (inv : Passing z states table s a) where
+    inside : s * z.symbols + a < length table
+    inside = let l : suc s * z.symbols ≤ states * z.symbols = mul-le-mul_right z.symbols h in omega (arith, size)
 
-    goes_on : (a + 1 ≡ z.symbols → ⊥) → (a + 1 < z.symbols) × ((i + 1) % z.symbols ≡ a + 1)
-    goes_on n =
-        let h : a + 1 < z.symbols = omega (arith, inv.inside) in
-        (h, after ∙ mod-eq_of_lt h)
+    next : good_at z states table (s * z.symbols + a) ≡ true → Passing z states table s (a + 1)
+    next g = let e : s * z.symbols + a + 1 ≡ s * z.symbols + (a + 1) = omega arith in record { walk = rw e at (walk-on inv.walk inside g) }
 
-    bad : i < length table → good_at z states table i ≡ false → Some i ≡ lowest_entry z states table
+    bad : good_at z states table (s * z.symbols + a) ≡ false → Some (s * z.symbols + a) ≡ lowest_entry z states table
     unfolding lowest_entry
-    bad h g = walk-bad inv.walk h g
+    bad g = walk-bad inv.walk inside g
 
-    none : length table ≤ i → None ≡ lowest_entry z states table
-    unfolding lowest_entry
-    none h = walk_end inv.walk h
+module _ {z : Sizes} {states : ℕ} {table : List ℤ} {s : ℕ} where
+  row_end : {a : ℕ} → a ≡ z.symbols → Passing z states table s a → Passing z states table (s + 1) 0
+  row_end e inv = let p : s * z.symbols + z.symbols ≡ (s + 1) * z.symbols + 0 = omega arith in record { walk = rw p at (rw e at inv.walk) }
 
-pub loop-i-init : goal.loop-i-init
-loop-i-init c =
-    let n : NumbersFit c.args.z = numbers_fit_lem c.args.z c.requires in
-    begin (omega (arith, n.symbols.least))
+  none : length table ≡ states * z.symbols → states ≡ s → Passing z states table s 0 → None ≡ lowest_entry z states table
+  unfolding lowest_entry
+  none size e inv = walk_end inv.walk (omega (arith, rw e at size))
 
-pub returns-then-not-entry_good : goal.returns-then-not-entry_good
-returns-then-not-entry_good c =
-    let e : c.sign.result ≡ sign_of (get_or c.args.table.entries.now c.loop-i.i (pos 0)) = search rules in
-    bad c.loop-i.invariant c.loop-i-test.true (told c.loop-i.invariant _ _ e c.entry_good.ensures ∙ c.if-not-entry_good.true)
+pub loop-s-init : goal.loop-s-init
+loop-s-init c = begin _ _ _
 
-pub loop-i-preserved : goal.loop-i-preserved
-loop-i-preserved c =
-    let w = c.loop-i.invariant in
-    let e : c.sign.result ≡ sign_of (get_or c.args.table.entries.now c.loop-i.i (pos 0)) = search rules in
-    let g = told w _ _ e c.entry_good.ensures ∙ c.if-not-entry_good.false in
-    elim c.if-a-z.branch [
-      | then-a-z d ↦ rw d.a-is (next w 0 c.loop-i-test.true (wraps w d.if-a-z.true) (omega (arith, w.inside)) g)
-      | else-a-z d ↦ rw d.a-is (let n = goes_on w d.if-a-z.false in next w _ c.loop-i-test.true n.1 n.0 g)
-    ]
+pub loop-a-init : goal.loop-a-init
+loop-a-init c = c.loop-s.invariant
+
+pub returns-then-not-action_good : goal.returns-then-not-action_good
+returns-then-not-action_good c =
+    let n = numbers_fit_lem c.args.z c.requires.numbers in
+    let k : c.loop-a.a < c.args.z.symbols = omega (arith, n.symbols.least, c.loop-a-test.true) in
+    bad (table_fits_lem _ _ _ c.requires.table) c.loop-s-test.true k c.loop-a.invariant (action-told _ _ _ _ _ k c.at_i32.ensures c.loop-a-test.true c.action_good.ensures ∙ c.if-not-action_good.true)
+
+pub loop-a-preserved : goal.loop-a-preserved
+loop-a-preserved c =
+    let n = numbers_fit_lem c.args.z c.requires.numbers in
+    let k : c.loop-a.a < c.args.z.symbols = omega (arith, n.symbols.least, c.loop-a-test.true) in
+    next (table_fits_lem _ _ _ c.requires.table) c.loop-s-test.true k c.loop-a.invariant (action-told _ _ _ _ _ k c.at_i32.ensures c.loop-a-test.true c.action_good.ensures ∙ c.if-not-action_good.false)
+
+pub loop-a-2-init : goal.loop-a-2-init
+loop-a-2-init c =
+    let e : c.loop-a.a ≡ c.args.z.terminals = omega (arith, c.loop-a-test.false, c.loop-a.auto.a-end) in
+    (omega arith, rw e at c.loop-a.invariant)
+
+pub returns-then-not-goto_good : goal.returns-then-not-goto_good
+returns-then-not-goto_good c =
+    let i = c.loop-a-2.invariant in
+    bad (table_fits_lem _ _ _ c.requires.table) c.loop-s-test.true c.loop-a-2-test.true i.1 (goto-told _ _ _ _ _ c.loop-a-2-test.true c.at_i32-in-loop-a-2.ensures i.0 c.goto_good.ensures ∙ c.if-not-goto_good.true)
+
+pub loop-a-2-preserved : goal.loop-a-2-preserved
+loop-a-2-preserved c =
+    let i = c.loop-a-2.invariant in
+    let g = goto-told _ _ _ _ _ c.loop-a-2-test.true c.at_i32-in-loop-a-2.ensures i.0 c.goto_good.ensures ∙ c.if-not-goto_good.false in
+    (omega (arith, i.0), next (table_fits_lem _ _ _ c.requires.table) c.loop-s-test.true c.loop-a-2-test.true i.1 g)
+
+pub loop-s-preserved : goal.loop-s-preserved
+loop-s-preserved c =
+    let n = numbers_fit_lem c.args.z c.requires.numbers in
+    row_end (let e : c.loop-a-2.a ≡ c.args.z.symbols = omega (arith, n.symbols.least, c.loop-a-2-test.false, c.loop-a-2.auto.a-end) in e) c.loop-a-2.invariant.1
 
 pub returns : goal.returns
-returns c = none c.loop-i.invariant (search rules)
+returns c =
+    none (table_fits_lem _ _ _ c.requires.table) (let e : c.args.table.states ≡ c.loop-s.s = omega (arith, c.loop-s-test.false, c.loop-s.auto.s-end) in e) c.loop-s.invariant

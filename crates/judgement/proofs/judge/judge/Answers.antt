@@ -8,7 +8,7 @@ lowest_rule-requires c = (all_fit_lem _ _ _ _ _ _ _ _ (sym c.all_fit.ensures ∙
 pub lowest_entry-requires : goal.lowest_entry-requires
 lowest_entry-requires c =
     let f = all_fit_lem _ _ _ _ _ _ _ _ (sym c.all_fit.ensures ∙ c.if-not-all_fit.false) in
-    fit-numbers _ (grammar_fits_lem _ _ _ _ f.grammar).numbers
+    record { numbers = fit-numbers _ (grammar_fits_lem _ _ _ _ f.grammar).numbers; table = f.table-size }
 
 pub judge_signatures-requires : goal.judge_signatures-requires
 judge_signatures-requires c = (all_fit_lem _ _ _ _ _ _ _ _ (sym c.all_fit.ensures ∙ c.if-not-all_fit.false)).signing
